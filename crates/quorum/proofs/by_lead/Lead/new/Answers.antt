@@ -1,0 +1,12 @@
+use native.Mathlib.Omega.{arith}
+use borrow.Author.Needs.{needs}
+use mathlib.Core.Path.{refl}
+use Rattle.std.proofs.shelf.Ways.{tells}
+use Rattle.quorum.proofs.Lawfuls.{lead-lawful}
+use Rattle.quorum.proofs.by_lead.Lead.new.Needs as need
+
+pub returns : need.returns
+returns g c = record {
+  declines = search needs;
+  makes = (refl, refl, λ h. lead-lawful (g .R·QuorumSystem .rule (c .args .below)) (c .args .lead) h (omega arith));
+}
