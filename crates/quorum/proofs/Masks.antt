@@ -10,7 +10,6 @@ use lib.Bits.{bitAnd, bitOr, and-mask, and-shr, or-shr, and-mod, or-mod, shifted
 use lib.Count.{ones, ones-cat}
 use lib.Dec.{eqb, ltb, eqb·suc-suc, eqb·zero-suc, eqb·suc-zero, leb·suc-suc}
 use lib.Pow.{shr-shr, mod-pow-add, pow-pos, pow-mono}
-use Rattle.std.proofs.shelf.Bits.{one-shl}
 use Rattle.std.proofs.shelf.Tests.{or-left, or-right, or-cases, lt-ltb, le-ltb, eq-eqb, eqb-true}
 use Rattle.quorum.specs.Sets.{Members, bits, joined, insert, count}
 
@@ -70,13 +69,9 @@ bits-one (suc i) (suc k) = bits-half (1 * 2 ^ suc i) k ∙ ap (λ x. bits x k) (
 
 -- one more replica
 pub bits-joined : (m i : ℕ) → bits (joined m i) ≡ insert i (bits m)
-unfolding insert joined
+unfolding insert
 bits-joined m i =
     fun-ext (λ k. bits-or m (2 ^ i) k ∙ ap (λ b. bits m k || b) (ap (λ x. bits x k) (sym (one-mul (2 ^ i))) ∙ bits-one i k))
-
-pub joined-shift : (m i : ℕ) → i < 32 → bitOr m ((1 * 2 ^ i) % 2 ^ 32) ≡ joined m i
-unfolding joined
-joined-shift m i l = ap (bitOr m) (one-shl i 32 l)
 
 -- a mask of 32 bits has no replica from 32 on
 pub bits-past : (m k : ℕ) → m < 2 ^ 32 → 32 ≤ k → bits m k ≡ false

@@ -2,11 +2,8 @@ use Prim.Native.Nat.{_≤_}
 use mathlib.Core.Path.{sym, _∙_}
 use native.Mathlib.Omega.{arith}
 use Rattle.std.proofs.shelf.Tests.{le-ltb}
-use Rattle.quorum.proofs.Masks.{bits-read, bits-past}
+use Rattle.quorum.proofs.Masks.{bits-past}
 use Rattle.quorum.proofs.members.has.Needs as need
-
-pub returns-then-k-lt32 : need.returns-then-k-lt32
-returns-then-k-lt32 c = bits-read (c .args .members) (c .args .k)
 
 pub returns-else-k-lt32 : need.returns-else-k-lt32
 returns-else-k-lt32 c =
