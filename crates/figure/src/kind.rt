@@ -31,7 +31,7 @@ pub trait FigureKind: Copy {
     law short: { (f : Self) → length (shown f) ≤ figure-room };
 
     /// The word that names the kind.
-    fn word<'a>() -> &'a [u8]
+    fn word<'a>() -> &'a str
         ensures { λ r. ⌜ now r ≡ named ⌝ };
 
     /// The figure before the first write.

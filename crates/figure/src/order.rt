@@ -90,13 +90,13 @@ impl Arm {
     fn named(word: &[u8]) -> Option<Arm>
         ensures { λ r. ⌜ r ≡ arm-of (now (word .entry)) ⌝ }
     {
-        if is_word(word, b"port") {
+        if is_word(word, "port") {
             return Some(Arm::Port);
         }
-        if is_word(word, b"starboard") {
+        if is_word(word, "starboard") {
             return Some(Arm::Starboard);
         }
-        if is_word(word, b"both") {
+        if is_word(word, "both") {
             return Some(Arm::Both);
         }
         None
@@ -119,13 +119,13 @@ impl Verb {
     fn named(word: &[u8]) -> Result<Verb, FigureFault>
         ensures { λ r. ⌜ r ≡ verb-of (now (word .entry)) ⌝ }
     {
-        if is_word(word, b"hold") {
+        if is_word(word, "hold") {
             return Ok(Verb::Hold);
         }
-        if is_word(word, b"dig") {
+        if is_word(word, "dig") {
             return Ok(Verb::Dig);
         }
-        if is_word(word, b"shift") {
+        if is_word(word, "shift") {
             return Ok(Verb::Shift);
         }
         Err(FigureFault::UnknownWord { field: 0 })
@@ -154,8 +154,8 @@ pub impl FigureKind for DigOrder as OrderKind {
 
     ghost shown = { order-shown };
 
-    fn word<'a>() -> &'a [u8] {
-        b"order"
+    fn word<'a>() -> &'a str {
+        "order"
     }
 
     fn start() -> DigOrder {
