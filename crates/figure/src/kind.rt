@@ -3,8 +3,10 @@ ghost use mathlib.Core.List.{List};
 ghost use Prim.Native.Nat.{ℕ, _+_, _≤_};
 ghost use lib.ListN.{length};
 ghost use Rattle.std.specs.declared.result.Result.{Result as Outcome};
+ghost use Rattle.std.specs.declared.result.Result.the-variants.{Ok as Fine};
 ghost use Rattle.figure.specs.declared.fault.FigureFault.{FigureFault as Fault};
 ghost use Rattle.figure.specs.Cursors.{ahead};
+ghost use Rattle.figure.specs.Fields.{fields};
 ghost use Rattle.figure.specs.Printing.{Printed, figure-room};
 use crate::fault::FigureFault;
 use crate::fields::FieldCursor;
@@ -28,7 +30,14 @@ pub trait FigureKind: Copy {
     // a figure as it is printed
     ghost shown: { Self → List ℕ };
 
+    // a line has room for every figure
     law short: { (f : Self) → length (shown f) ≤ figure-room };
+
+    // what is printed of a figure has as many fields as it must have
+    law counts_back: { (f : Self) → wanted (fields (shown f)) ≡ Fine (length (fields (shown f))) };
+
+    // and reads as that figure
+    law reads_back: { (f : Self) → reading (fields (shown f)) ≡ Fine f };
 
     /// The word that names the kind.
     fn word<'a>() -> &'a str
