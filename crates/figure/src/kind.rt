@@ -49,12 +49,12 @@ pub trait FigureKind: Copy {
 
     /// How many fields the figure must have, or the fault in a field that fixes this. Whoever reads a figure compares
     /// this with `FieldCursor::count` before `read`.
-    fn word_count(fields: &FieldCursor<'_>) -> Result<usize, FigureFault>
-        ensures { λ r. ⌜ r ≡ wanted (ahead (now (fields .entry))) ⌝ };
+    fn word_count(cursor: &FieldCursor<'_>) -> Result<usize, FigureFault>
+        ensures { λ r. ⌜ r ≡ wanted (ahead (now (cursor .entry))) ⌝ };
 
     /// The figure that the fields to come say; a missing field reads as an empty one.
-    fn read(fields: FieldCursor<'_>) -> Result<Self, FigureFault>
-        ensures { λ r. ⌜ r ≡ reading (ahead (fields .entry)) ⌝ };
+    fn read(cursor: FieldCursor<'_>) -> Result<Self, FigureFault>
+        ensures { λ r. ⌜ r ≡ reading (ahead (cursor .entry)) ⌝ };
 
     /// Writes the figure at a place, and gives the place after it. There has to be room: a printer of a whole line
     /// tests its buffer once, and no figure takes more than 32 bytes.

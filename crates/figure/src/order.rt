@@ -5,8 +5,8 @@ ghost use lib.ListN.{length};
 ghost use Rattle.std.specs.declared.option.Option.the-variants.{Some as Just};
 ghost use Rattle.figure.specs.declared.order.DigOrder.the-variants.{Hold as HoldOrder};
 ghost use Rattle.figure.specs.Limits.{up-to};
-ghost use Rattle.figure.specs.Orders.{arm-of, verb-of, verb-fields, dig-from, shift-from, order-wanted, order-reading};
-ghost use Rattle.figure.specs.Orders.{arm-shown, dig-shown, shift-shown, order-shown};
+ghost use Rattle.figure.specs.Orders.{arm-of, verb-of, verb-fields, dig-from, shift-from};
+ghost use Rattle.figure.specs.Orders.{order-wanted, order-reading, arm-shown, dig-shown, shift-shown, order-shown};
 ghost use Rattle.figure.specs.Printing.{Printed};
 use crate::fault::FigureFault;
 use crate::fields::FieldCursor;
@@ -162,24 +162,24 @@ pub impl FigureKind for DigOrder as OrderKind {
         DigOrder::Hold
     }
 
-    fn word_count(fields: &FieldCursor<'_>) -> Result<usize, FigureFault> {
-        if fields.count() == 0 {
+    fn word_count(cursor: &FieldCursor<'_>) -> Result<usize, FigureFault> {
+        if cursor.count() == 0 {
             return Ok(1);
         }
-        let verb = Verb::named(fields.peek())?;
+        let verb = Verb::named(cursor.peek())?;
         Ok(verb.field_count())
     }
 
-    fn read(mut fields: FieldCursor<'_>) -> Result<DigOrder, FigureFault> {
-        let verb = Verb::named(fields.next_field())?;
+    fn read(mut cursor: FieldCursor<'_>) -> Result<DigOrder, FigureFault> {
+        let verb = Verb::named(cursor.next_field())?;
         match verb {
             Verb::Hold => Ok(DigOrder::Hold),
             Verb::Dig => {
-                let depth = Depth::read(fields.next_field());
-                let arm = Arm::named(fields.next_field());
+                let depth = Depth::read(cursor.next_field());
+                let arm = Arm::named(cursor.next_field());
                 DigOrder::join_dig(depth, arm)
             }
-            Verb::Shift => DigOrder::join_shift(Section::read(fields.next_field())),
+            Verb::Shift => DigOrder::join_shift(Section::read(cursor.next_field())),
         }
     }
 

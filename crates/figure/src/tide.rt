@@ -3,7 +3,8 @@ ghost use Prim.Native.Nat.{_+_, _≤_};
 ghost use lib.Chars.{codes};
 ghost use lib.ListN.{length};
 ghost use Rattle.figure.specs.Printing.{Printed};
-ghost use Rattle.figure.specs.Tides.{tide-from, tide-of, tide-start, tide-wanted, tide-reading, tide-shown, level-minute-shown};
+ghost use Rattle.figure.specs.Tides.{tide-from, tide-of, tide-start, tide-wanted, tide-reading};
+ghost use Rattle.figure.specs.Tides.{tide-shown, level-minute-shown};
 use crate::fault::FigureFault;
 use crate::fields::FieldCursor;
 use crate::kind::FigureKind;
@@ -68,13 +69,13 @@ pub impl FigureKind for Tide as TideKind {
         }
     }
 
-    fn word_count(_fields: &FieldCursor<'_>) -> Result<usize, FigureFault> {
+    fn word_count(_cursor: &FieldCursor<'_>) -> Result<usize, FigureFault> {
         Ok(2)
     }
 
-    fn read(mut fields: FieldCursor<'_>) -> Result<Tide, FigureFault> {
-        let level = Level::read(fields.next_field());
-        let minute = Minute::read(fields.next_field());
+    fn read(mut cursor: FieldCursor<'_>) -> Result<Tide, FigureFault> {
+        let level = Level::read(cursor.next_field());
+        let minute = Minute::read(cursor.next_field());
         Tide::join(level, minute)
     }
 
