@@ -1,4 +1,5 @@
 pub mod Limited
 pub mod Parting
 pub mod Placed
+pub mod RoundTrip
 pub mod Spelling

@@ -1,22 +1,22 @@
-use mathlib.Core.Bool.{true, false}
+use mathlib.Core.Bool.{true}
 use mathlib.Core.Path.{_≡_, refl, sym, ap, _∙_}
-use mathlib.Core.List.{List, [], _∷_}
-use Prim.Native.Nat.{ℕ, _+_, _*_, _<_, _≤_, _^_}
+use mathlib.Core.List.{List, [], _∷_, _++_}
+use Prim.Native.Nat.{ℕ, _+_, _*_, _/_, _%_, _<_, _≤_, _^_}
 use borrow.Author.Tests.{le-leb, ltb-true}
 use native.Mathlib.Nat.{pow-suc}
 use native.Mathlib.Numerals.{add-one}
 use native.Mathlib.Omega.{arith}
 use lib.Dec.{leb}
-use lib.IntN.{ℤ, pos, negsuc, negℤ, natAbs}
+use lib.IntN.{ℤ, pos, negsuc, natAbs}
 use lib.ListN.{length, getD, drop}
 use lib.Seq.{drop-cons}
 use lib.Signed.{ltZ}
+use Rattle.std.proofs.shelf.Decimals.{decimal-digit, decimal-step}
 use Rattle.std.proofs.shelf.Lists.{drop-all}
-use Rattle.std.specs.Options.{mapped}
 use Rattle.std.specs.Written.{decimal, signed}
 use Rattle.std.specs.declared.option.Option.{Option}
 use Rattle.std.specs.declared.option.Option.the-variants.{Some, None}
-use Rattle.figure.specs.Numbers.{digit-of, spelled-on, spelled, minus-first, spelled-signed}
+use Rattle.figure.specs.Numbers.{digit-of, spelled-on, spelled}
 use Rattle.figure.specs.Partial.{and-then}
 
 -- the byte at a place, and what the digits from there on spell
@@ -37,17 +37,12 @@ pub spelled-is : (field : List ℕ) → 1 ≤ length field → length field ≤ 
 unfolding spelled
 spelled-is field some few = rw (le-leb 1 (length field) some, le-leb (length field) 6 few)
 
--- a minus, and the digits behind it
-pub spelled-minus : (field : List ℕ) → minus-first field ≡ true → mapped (λ n. negℤ (pos n)) (spelled (drop 1 field)) ≡ spelled-signed field
-unfolding spelled-signed
-spelled-minus field m = rw m
-
--- no minus
-pub spelled-plus : (field : List ℕ) → minus-first field ≡ false → mapped pos (spelled field) ≡ spelled-signed field
-unfolding spelled-signed
-spelled-plus field m = rw m
-
 -- below 0 a minus stands first
 pub signed-below : (z : ℤ) → ltZ z (pos 0) ≡ true → signed z ≡ 45 ∷ decimal (natAbs z)
 signed-below (pos n) p = let l : n < 0 = ltb-true n 0 p in absurd (omega arith)
 signed-below (negsuc n) p = refl
+
+-- a number's digits are those of its tenth part, and its last
+pub decimal-last : (n : ℕ) → 10 ≤ n → n < 2 ^ 64 → decimal n ≡ decimal (n / 10) ++ decimal (n % 10)
+decimal-last n h small =
+    decimal-step n h small ∙ ap (λ d. decimal (n / 10) ++ d) (sym (decimal-digit (n % 10) (omega arith)))

@@ -1,4 +1,5 @@
 pub mod Cursors
+pub mod Examples
 pub mod Faults
 pub mod Fields
 pub mod Limits

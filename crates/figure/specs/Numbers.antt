@@ -28,6 +28,6 @@ abbrev pub minus-first : List ℕ → Bool
 minus-first field = leb 1 (length field) && eqb (getD field 0 0) 45
 
 -- the number that a field spells where a minus may stand before the digits; -0 is 0
-unfoldable pub spelled-signed : List ℕ → Option ℤ
+abbrev pub spelled-signed : List ℕ → Option ℤ
 spelled-signed field =
     cond (minus-first field) (mapped (λ n. negℤ (pos n)) (spelled (drop 1 field))) (mapped pos (spelled field))

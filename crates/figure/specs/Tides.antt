@@ -36,6 +36,10 @@ tide-wanted fs = Ok 2
 abbrev pub tide-reading : List (List ℕ) → Result Tide FigureFault
 tide-reading fs = tide-from (level-read (field-at fs 0)) (up-to-read 1439 (field-at fs 1))
 
--- a tide as it is printed: level, tab, minute
+-- a level and a minute as they are printed, parted by a tab
+abbrev pub level-minute-shown : Level → Minute → List ℕ
+level-minute-shown level minute = (signed (level .mm) ++ (9 ∷ [])) ++ decimal (minute .value)
+
+-- a tide as it is printed
 abbrev pub tide-shown : Tide → List ℕ
-tide-shown t = (signed (t .level .mm) ++ (9 ∷ [])) ++ decimal (t .minute .value)
+tide-shown t = level-minute-shown (t .level) (t .minute)

@@ -39,7 +39,7 @@ impl<'a> FieldCursor<'a> {
     }
 
     /// The next field, which stays to come; an empty one where none is left.
-    pub fn peek(&self) -> &'a [u8]
+    pub(crate) fn peek(&self) -> &'a [u8]
         ensures { λ r. ⌜ now r ≡ field-at (ahead (now (self .entry))) 0 ⌝ }
     {
         let Some(text) = self.rest else {
@@ -63,11 +63,18 @@ impl<'a> FieldCursor<'a> {
     }
 }
 
-/// Whether a field is the word wanted.
-pub fn is_word(field: &[u8], word: &[u8]) -> bool
+/// Whether a field is a word.
+pub fn is_word(field: &[u8], word: &str) -> bool
     ensures { λ r. ⌜ r ≡ sameBytes (now (field .entry)) (now (word .entry)) ⌝ }
 {
-    field == word
+    same_bytes(field, word.as_bytes())
+}
+
+// Whether two texts have the same bytes.
+fn same_bytes(one: &[u8], other: &[u8]) -> bool
+    ensures { λ r. ⌜ r ≡ sameBytes (now (one .entry)) (now (other .entry)) ⌝ }
+{
+    one == other
 }
 
 // The place of the first tab, or the text's length.

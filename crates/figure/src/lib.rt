@@ -3,6 +3,7 @@
 //! A figure is a plain `Copy` value whose numbers lie in their ranges by its type. Each kind of figure is read from the
 //! fields of a line of text, which tabs part, and printed into a buffer; `FigureKind` is what both kinds share.
 //! The tools for fields, numbers and printing serve other readers and printers of lines too.
+mod examples;
 mod fault;
 mod fields;
 mod kind;

@@ -1,6 +1,7 @@
 ghost use mathlib.Core.Path.{_≡_};
 ghost use Prim.Native.Nat.{_<_};
-ghost use Rattle.std.specs.Options.{Cases};
+ghost use lib.IntN.{pos, negℤ};
+ghost use Rattle.std.specs.Options.{Cases, mapped};
 ghost use Rattle.figure.specs.Numbers.{digit-of, spelled, spelled-signed};
 
 /// The number that a field spells, if it spells one.
@@ -23,15 +24,27 @@ pub fn signed_number(field: &[u8]) -> Option<i32>
     ensures { λ r. ⌜ r ≡ spelled-signed (now (field .entry)) ⌝ }
 {
     match field {
-        [b'-', digits @ ..] => {
-            let n = number(digits)?;
-            Some(-(n as i32))
-        }
-        _ => {
-            let n = number(field)?;
-            Some(n as i32)
-        }
+        [b'-', digits @ ..] => negative(number(digits)),
+        _ => positive(number(field)),
     }
+}
+
+// A number that a field spells as a signed one.
+fn positive(n: Option<u32>) -> Option<i32>
+    requires { ⌜ Cases n (Unit {0}) (λ n. n < 1000000) ⌝ }
+    ensures { λ r. ⌜ r ≡ mapped pos n ⌝ }
+{
+    let n = n?;
+    Some(n as i32)
+}
+
+// The number below 0 that is as far from it as one that a field spells.
+fn negative(n: Option<u32>) -> Option<i32>
+    requires { ⌜ Cases n (Unit {0}) (λ n. n < 1000000) ⌝ }
+    ensures { λ r. ⌜ r ≡ mapped (λ n. negℤ (pos n)) n ⌝ }
+{
+    let n = n?;
+    Some(-(n as i32))
 }
 
 // The digit that a byte shows, if it is one.

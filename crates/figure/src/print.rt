@@ -1,8 +1,8 @@
 ghost use mathlib.Core.Path.{_≡_};
-ghost use Prim.Native.Nat.{ℕ, _+_, _≤_};
+ghost use Prim.Native.Nat.{ℕ, _+_, _<_, _≤_};
 ghost use lib.ListN.{length};
 ghost use Rattle.std.specs.Written.{decimal, signed};
-ghost use Rattle.figure.specs.Printing.{Printed};
+ghost use Rattle.figure.specs.Printing.{Printed, put};
 
 /// Writes bytes at a place, and gives the place after them.
 ///
@@ -11,9 +11,17 @@ pub fn put_bytes(buffer: &mut [u8], at: usize, bytes: &[u8]) -> usize
     requires { ⌜ at + length (now bytes) ≤ length (now buffer) ⌝ }
     ensures { λ r. ⌜ Printed (now (buffer .entry)) at (now (bytes .entry)) (now (buffer .exit)) r ⌝ }
 {
+    paste(buffer, at, bytes);
+    at + bytes.len()
+}
+
+// Copies bytes to a place of a buffer.
+fn paste(buffer: &mut [u8], at: usize, bytes: &[u8])
+    requires { ⌜ at + length (now bytes) ≤ length (now buffer) ⌝ }
+    ensures { λ _. ⌜ now (buffer .exit) ≡ put (now (buffer .entry)) at (now (bytes .entry)) ⌝ }
+{
     let end = at + bytes.len();
     buffer[at..end].copy_from_slice(bytes);
-    end
 }
 
 /// Writes a number's decimal digits at a place, and gives the place after them. There has to be room, as for bytes.
@@ -22,12 +30,20 @@ pub fn put_number(buffer: &mut [u8], at: usize, n: u32) -> usize
     ensures { λ r. ⌜ Printed (now (buffer .entry)) at (decimal n) (now (buffer .exit)) r ⌝ }
 {
     if n < 10 {
-        buffer[at] = b'0' + n as u8;
-        return at + 1;
+        return put_digit(buffer, at, n);
     }
     let end = put_number(buffer, at, n / 10);
-    buffer[end] = b'0' + (n % 10) as u8;
-    end + 1
+    put_digit(buffer, end, n % 10)
+}
+
+// Writes a number of one digit.
+fn put_digit(buffer: &mut [u8], at: usize, n: u32) -> usize
+    requires digit { ⌜ n < 10 ⌝ }
+    requires room { ⌜ at + length (decimal n) ≤ length (now buffer) ⌝ }
+    ensures { λ r. ⌜ Printed (now (buffer .entry)) at (decimal n) (now (buffer .exit)) r ⌝ }
+{
+    buffer[at] = b'0' + n as u8;
+    at + 1
 }
 
 /// Writes a number, with a minus if it is below 0, at a place, and gives the place after it. There has to be room.
