@@ -1,0 +1,4 @@
+pub mod LineEnds
+pub mod Plainly
+pub mod Heading
+pub mod Sized

@@ -1,0 +1,7 @@
+pub mod Lines
+pub mod LineCursors
+pub mod Faults
+pub mod Words
+pub mod Headers
+pub mod Openings
+pub mod Answers
