@@ -12,6 +12,7 @@ use script::print_answer;
 use std::env;
 use std::error::AnyError;
 use std::fs::File;
+use std::io;
 use std::io::Read;
 use std::io::Write;
 
@@ -19,7 +20,13 @@ use std::io::Write;
 const LIMIT: usize = 65536;
 
 fn main(rt: LibcRuntime) -> Result<(), AnyError> {
-    rt.report(run(&rt))
+    match run(&rt) {
+        Ok(()) => Ok(()),
+        Err(fault) => {
+            eprintln!(rt, "bench: {fault}")?;
+            Err(fault)
+        }
+    }
 }
 
 fn run(rt: &LibcRuntime) -> Result<(), AnyError> {
@@ -49,14 +56,21 @@ fn read_script(rt: &LibcRuntime) -> Result<Vec<u8>, AnyError> {
     let _program = words.next();
     match words.next() {
         Some(path) => {
-            let file = File::open(rt, path.as_str())?;
-            file.take(LIMIT as u64 + 1).read_to_end(&mut script)?;
+            if let Err(e) = read_file(rt, path.as_str(), &mut script) {
+                return Err(format!(rt.alloc(), "cannot read {path}: {e}")?.into());
+            }
         }
         None => {
             rt.stdin().take(LIMIT as u64 + 1).read_to_end(&mut script)?;
         }
     }
     Ok(script)
+}
+
+fn read_file(rt: &LibcRuntime, path: &str, script: &mut Vec<u8>) -> io::Result<()> {
+    let file = File::open(rt, path)?;
+    file.take(LIMIT as u64 + 1).read_to_end(script)?;
+    Ok(())
 }
 
 fn print(rt: &LibcRuntime, number: u32, answer: Answer<Tide>) -> Result<(), AnyError> {
