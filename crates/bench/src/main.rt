@@ -4,7 +4,6 @@
 use figure::Tide;
 use figure::TideKind;
 use script::Answer;
-use script::LineCursor;
 use script::ScriptFault;
 use script::TextFault;
 use script::open_line;
@@ -15,6 +14,7 @@ use std::fs::File;
 use std::io;
 use std::io::Read;
 use std::io::Write;
+use text::LineCursor;
 
 // A script of more bytes is declined whole.
 const LIMIT: usize = 65536;

@@ -1,5 +1,2 @@
 pub mod Limited
-pub mod Parting
-pub mod Placed
-pub mod RoundTrip
-pub mod Spelling
+pub mod ReadBack

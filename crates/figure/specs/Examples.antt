@@ -8,7 +8,7 @@ use Rattle.std.specs.declared.result.Result.{Result}
 use Rattle.std.specs.declared.result.Result.the-variants.{Ok, Err}
 use Rattle.std.specs.shelf.Text.{sameBytes}
 use Rattle.figure.specs.Faults.{fault-number, fault-field}
-use Rattle.figure.specs.Fields.{fields}
+use Rattle.text.specs.Fields.{fields}
 use Rattle.figure.specs.Orders.{order-reading, order-shown}
 use Rattle.figure.specs.Tides.{tide-reading, tide-shown}
 use Rattle.figure.specs.declared.fault.FigureFault.{FigureFault}

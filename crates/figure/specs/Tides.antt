@@ -7,7 +7,7 @@ use Rattle.std.specs.declared.option.Option.{Option}
 use Rattle.std.specs.declared.option.Option.the-variants.{Some, None}
 use Rattle.std.specs.declared.result.Result.{Result}
 use Rattle.std.specs.declared.result.Result.the-variants.{Ok, Err}
-use Rattle.figure.specs.Fields.{field-at}
+use Rattle.text.specs.Fields.{field-at}
 use Rattle.figure.specs.Limits.{Minute, up-to, up-to-zero, up-to-read, level-zero, level-of, level-read}
 use Rattle.figure.specs.declared.fault.FigureFault.{FigureFault}
 use Rattle.figure.specs.declared.fault.FigureFault.the-variants.{BadNumber}

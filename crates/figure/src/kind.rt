@@ -5,11 +5,12 @@ ghost use lib.ListN.{length};
 ghost use Rattle.std.specs.declared.result.Result.{Result as Outcome};
 ghost use Rattle.std.specs.declared.result.Result.the-variants.{Ok as Fine};
 ghost use Rattle.figure.specs.declared.fault.FigureFault.{FigureFault as Fault};
-ghost use Rattle.figure.specs.Cursors.{ahead};
-ghost use Rattle.figure.specs.Fields.{fields};
-ghost use Rattle.figure.specs.Printing.{Printed, figure-room};
+ghost use Rattle.text.specs.Cursors.{ahead};
+ghost use Rattle.text.specs.Fields.{fields};
+ghost use Rattle.text.specs.Printing.{Printed};
+ghost use Rattle.figure.specs.Room.{figure-room};
 use crate::fault::FigureFault;
-use crate::fields::FieldCursor;
+use text::FieldCursor;
 
 /// A kind of figure: its word, the figure it starts with, and how its figures are read and printed.
 ///

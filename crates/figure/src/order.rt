@@ -7,17 +7,17 @@ ghost use Rattle.figure.specs.declared.order.DigOrder.the-variants.{Hold as Ho
 ghost use Rattle.figure.specs.Limits.{up-to};
 ghost use Rattle.figure.specs.Orders.{arm-of, verb-of, verb-fields, dig-from, shift-from};
 ghost use Rattle.figure.specs.Orders.{order-wanted, order-reading, arm-shown, dig-shown, shift-shown, order-shown};
-ghost use Rattle.figure.specs.Printing.{Printed};
+ghost use Rattle.text.specs.Printing.{Printed};
 use crate::fault::FigureFault;
-use crate::fields::FieldCursor;
-use crate::fields::is_word;
 use crate::kind::FigureKind;
 use crate::limits::Depth;
 use crate::limits::Section;
 use crate::limits::UpToDebug;
 use crate::limits::UpToPartialEq;
-use crate::print::put_bytes;
-use crate::print::put_number;
+use text::FieldCursor;
+use text::is_word;
+use text::put_bytes;
+use text::put_number;
 
 /// The arm that digs.
 #[derive(Clone, Copy, PartialEq, Debug)]

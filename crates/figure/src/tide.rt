@@ -2,11 +2,10 @@ ghost use mathlib.Core.Path.{_≡_};
 ghost use Prim.Native.Nat.{_+_, _≤_};
 ghost use lib.Chars.{codes};
 ghost use lib.ListN.{length};
-ghost use Rattle.figure.specs.Printing.{Printed};
+ghost use Rattle.text.specs.Printing.{Printed};
 ghost use Rattle.figure.specs.Tides.{tide-from, tide-of, tide-start, tide-wanted, tide-reading};
 ghost use Rattle.figure.specs.Tides.{tide-shown, level-minute-shown};
 use crate::fault::FigureFault;
-use crate::fields::FieldCursor;
 use crate::kind::FigureKind;
 use crate::limits::Level;
 use crate::limits::LevelDebug;
@@ -14,9 +13,10 @@ use crate::limits::LevelPartialEq;
 use crate::limits::Minute;
 use crate::limits::UpToDebug;
 use crate::limits::UpToPartialEq;
-use crate::print::put_bytes;
-use crate::print::put_number;
-use crate::print::put_signed;
+use text::FieldCursor;
+use text::put_bytes;
+use text::put_number;
+use text::put_signed;
 
 /// A water level and the minute of the day at which it was read.
 #[derive(Clone, Copy, PartialEq, Debug)]

@@ -10,9 +10,9 @@ use Rattle.std.specs.declared.option.Option.{Option}
 use Rattle.std.specs.declared.option.Option.the-variants.{Some, None}
 use Rattle.std.specs.shelf.Text.{sameBytes}
 use Rattle.std.proofs.shelf.Tests.{cond-true, cond-false}
-use Rattle.figure.specs.Fields.{fields, field-at}
+use Rattle.text.specs.Fields.{fields, field-at}
 use Rattle.script.specs.declared.header.RuleWord.{RuleWord}
-use Rattle.script.specs.Lines.{is-text}
+use Rattle.text.specs.Lines.{is-text}
 use Rattle.script.specs.Headers.{rule-word, rule-numbers, header-rest, header-ruled, header-of}
 
 -- a header whose number of fields is right is read from the left

@@ -1,4 +1,2 @@
-pub mod LineEnds
-pub mod Plainly
 pub mod Heading
 pub mod Sized

@@ -10,14 +10,14 @@ use Rattle.std.specs.declared.option.Option.the-variants.{Some, None}
 use Rattle.std.specs.declared.result.Result.{Result}
 use Rattle.std.specs.declared.result.Result.the-variants.{Ok, Err}
 use Rattle.std.specs.shelf.Text.{sameBytes}
-use Rattle.figure.specs.Fields.{fields, field-at}
-use Rattle.figure.specs.Partial.{ok-then}
+use Rattle.text.specs.Fields.{fields, field-at}
+use Rattle.text.specs.Partial.{ok-then}
 use Rattle.script.specs.declared.fault.TextFault.{TextFault}
 use Rattle.script.specs.declared.header.Header.{Header}
 use Rattle.script.specs.declared.header.Kind.{Kind}
 use Rattle.script.specs.declared.header.RuleText.{RuleText}
 use Rattle.script.specs.declared.header.RuleWord.{RuleWord}
-use Rattle.script.specs.Lines.{is-text}
+use Rattle.text.specs.Lines.{is-text}
 use Rattle.script.specs.Words.{number-in}
 
 -- The rule that a word names.

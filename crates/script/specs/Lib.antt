@@ -1,5 +1,3 @@
-pub mod Lines
-pub mod LineCursors
 pub mod Faults
 pub mod Words
 pub mod Headers

@@ -5,7 +5,7 @@ use Rattle.std.specs.declared.option.Option.{Option}
 use Rattle.std.specs.declared.option.Option.the-variants.{Some, None}
 use Rattle.std.specs.declared.result.Result.{Result}
 use Rattle.std.specs.declared.result.Result.the-variants.{Ok, Err}
-use Rattle.figure.specs.Numbers.{spelled}
+use Rattle.text.specs.Numbers.{spelled}
 use Rattle.script.specs.declared.fault.TextFault.{TextFault}
 
 abbrev pub number-or : ℕ → Option ℕ → Result ℕ TextFault

@@ -1,13 +1,13 @@
 ghost use mathlib.Core.Path.{_≡_};
 ghost use Prim.Native.Nat.{_+_, _≤_};
 ghost use lib.ListN.{length};
-ghost use Rattle.figure.specs.Printing.{Printed};
+ghost use Rattle.text.specs.Printing.{Printed};
 ghost use Rattle.script.specs.Faults.{report};
 ghost use Rattle.script.specs.Answers.{tabbed, accepted-shown, finished-shown, declined-shown, answer-shown, line-shown, LinePrinted};
 use crate::fault::ScriptFault;
 use figure::FigureKind;
-use figure::put_bytes;
-use figure::put_number;
+use text::put_bytes;
+use text::put_number;
 
 /// The answer to one line of a script.
 #[derive(Clone, Copy)]

@@ -1,12 +1,12 @@
 ghost use mathlib.Core.Path.{_≡_};
-ghost use Rattle.figure.specs.Cursors.{ahead};
+ghost use Rattle.text.specs.Cursors.{ahead};
 ghost use Rattle.script.specs.Words.{number-in};
 ghost use Rattle.script.specs.Headers.{rule-word, kind-word, rule-numbers, rule-rest, rule-text, header-rest, header-of};
 use crate::fault::TextFault;
-use crate::lines::is_text;
-use figure::FieldCursor;
-use figure::is_word;
-use figure::number;
+use text::FieldCursor;
+use text::is_text;
+use text::is_word;
+use text::number;
 
 /// The kind of figure that a register holds.
 #[derive(Clone, Copy)]

@@ -5,7 +5,6 @@
 mod answer;
 mod fault;
 mod header;
-mod lines;
 mod opening;
 
 pub use answer::Answer;
@@ -23,7 +22,5 @@ pub use header::Header;
 pub use header::Kind;
 pub use header::RuleText;
 pub use header::read_header;
-pub use lines::LineCursor;
-pub use lines::is_text;
 pub use opening::open_header;
 pub use opening::open_line;

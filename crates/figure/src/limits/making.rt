@@ -4,8 +4,8 @@ ghost use Rattle.std.specs.declared.option.Option.the-variants.{Some as Just};
 ghost use Rattle.figure.specs.Limits.{up-to-zero, up-to, up-to-read, level-zero, level-of, level-read};
 use super::Level;
 use super::UpTo;
-use crate::numbers::number;
-use crate::numbers::signed_number;
+use text::number;
+use text::signed_number;
 
 // The most that a level is above or below the datum, in mm.
 const FARTHEST: u32 = 20_000;

@@ -1,8 +1,8 @@
 use mathlib.Core.Path.{refl}
 use Rattle.std.specs.Written.{digits}
-use Rattle.figure.specs.Numbers.{spelled}
+use Rattle.text.specs.Numbers.{spelled}
 use Rattle.figure.specs.Orders.{arm-of, verb-of}
-use Rattle.figure.specs.Partial.{if-within}
+use Rattle.text.specs.Partial.{if-within}
 use Rattle.figure.proofs.examples.examples_stand.Needs as need
 
 pub returns : need.returns

@@ -7,7 +7,7 @@ use mir.Syntax.{w32}
 use mir.Val.{toZ, ofZ, SFits}
 use Rattle.std.proofs.shelf.Signed.{toZ-ofZ}
 use Rattle.std.specs.Written.{decimal, signed}
-use Rattle.figure.proofs.Placed.{then-put, printed-as}
+use Rattle.text.proofs.Placed.{then-put, printed-as}
 use Rattle.figure.proofs.tide.put_tide.Needs as need
 
 -- the level goes through its bits and back

@@ -10,7 +10,7 @@ use borrow.Author.Tests.{le-ltb}
 use Rattle.std.specs.Written.{decimal}
 use Rattle.std.proofs.shelf.Decimals.{length-decimal-le}
 use Rattle.std.proofs.shelf.Tests.{cond-false}
-use Rattle.figure.proofs.Placed.{then-put}
+use Rattle.text.proofs.Placed.{then-put}
 use Rattle.std.specs.declared.result.Result.the-variants.{Ok, Err}
 use Rattle.script.specs.Answers.{answer-shown, line-shown}
 use Rattle.script.proofs.answer.print_answer.Needs as need

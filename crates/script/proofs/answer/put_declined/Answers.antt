@@ -1,7 +1,7 @@
 use mathlib.Core.Path.{ap}
 use native.Mathlib.Omega.{arith}
 use lib.ListN.{length, length-append}
-use Rattle.figure.proofs.Placed.{then-put, printed-as}
+use Rattle.text.proofs.Placed.{then-put, printed-as}
 use Rattle.script.specs.Answers.{tabbed}
 use Rattle.script.proofs.Sized.{layer-short, tabbed-short}
 use Rattle.script.proofs.answer.put_declined.Needs as need

@@ -1,6 +1,6 @@
 use native.Mathlib.Omega.{arith}
 use lib.ListN.{length-append}
-use Rattle.figure.proofs.Placed.{then-put}
+use Rattle.text.proofs.Placed.{then-put}
 use Rattle.script.proofs.Sized.{FinishedSizes, finished-sizes}
 use Rattle.script.proofs.answer.put_finished.Needs as need
 

@@ -1,6 +1,6 @@
 use mathlib.Core.List.{_∷_, []}
 use native.Mathlib.Omega.{arith}
-use Rattle.figure.proofs.Placed.{then-put}
+use Rattle.text.proofs.Placed.{then-put}
 use Rattle.script.proofs.answer.put_tabbed.Needs as need
 
 pub returns : need.returns

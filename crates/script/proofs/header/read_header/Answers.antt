@@ -6,8 +6,8 @@ use lib.ListN.{length, getD, drop}
 use lib.Chars.{codes}
 use Rattle.std.specs.shelf.Text.{sameBytes}
 use Rattle.std.proofs.shelf.Lists.{drop-drop, getD-drop}
-use Rattle.figure.specs.Fields.{fields, field-at}
-use Rattle.figure.specs.Cursors.{ahead}
+use Rattle.text.specs.Fields.{fields, field-at}
+use Rattle.text.specs.Cursors.{ahead}
 use Rattle.script.specs.Headers.{rule-word, rule-numbers, header-rest}
 use Rattle.script.proofs.Heading.{header-goes}
 use Rattle.script.proofs.header.read_header.Needs as need

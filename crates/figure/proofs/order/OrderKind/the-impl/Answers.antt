@@ -8,13 +8,14 @@ use Rattle.std.proofs.shelf.Decimals.{length-decimal-le}
 use Rattle.std.specs.Written.{decimal}
 use Rattle.std.specs.declared.option.Option.the-variants.{Some}
 use Rattle.std.specs.declared.result.Result.the-variants.{Ok}
-use Rattle.figure.specs.Fields.{fields}
+use Rattle.text.specs.Fields.{fields}
 use Rattle.figure.specs.Limits.{Depth, Section}
 use Rattle.figure.specs.Orders.{arm-of, verb-of, arm-shown, dig-shown, shift-shown, order-wanted, order-reading}
 use Rattle.figure.specs.declared.order.Arm.{Arm}
 use Rattle.figure.specs.declared.order.Arm.the-variants.{Port, Starboard, Both}
 use Rattle.figure.specs.declared.order.DigOrder.the-variants.{Hold, Dig, Shift}
-use Rattle.figure.proofs.RoundTrip.{Tabless, fields-then, fields-last, tabless-decimal, read-up-to}
+use Rattle.text.proofs.RoundTrip.{Tabless, fields-then, fields-last, tabless-decimal}
+use Rattle.figure.proofs.ReadBack.{read-up-to}
 use Rattle.figure.proofs.order.OrderKind.the-impl.Needs as need
 
 arm-short : (arm : Arm) → length (arm-shown arm) ≤ 9

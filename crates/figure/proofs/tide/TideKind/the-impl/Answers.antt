@@ -7,10 +7,11 @@ use lib.ListN.{length, length-append}
 use lib.Signed.{mag}
 use Rattle.std.proofs.shelf.Decimals.{length-decimal-le, length-signed-le}
 use Rattle.std.specs.Written.{decimal, signed}
-use Rattle.figure.specs.Fields.{fields}
+use Rattle.text.specs.Fields.{fields}
 use Rattle.figure.specs.Tides.{tide-reading, tide-shown}
 use Rattle.figure.specs.declared.tide.Tide.{Tide}
-use Rattle.figure.proofs.RoundTrip.{fields-then, fields-last, tabless-signed, tabless-decimal, read-level, read-up-to}
+use Rattle.text.proofs.RoundTrip.{fields-then, fields-last, tabless-signed, tabless-decimal}
+use Rattle.figure.proofs.ReadBack.{read-level, read-up-to}
 use Rattle.figure.proofs.tide.TideKind.the-impl.Needs as need
 
 mag-le : (z : ℤ) → mag z ≤ natAbs z

@@ -1,8 +1,0 @@
-use borrow.Author.Needs.{needs}
-use mathlib.Core.Path.{ap}
-use Rattle.std.proofs.shelf.Lists.{take-rest}
-use Rattle.figure.specs.Numbers.{spelled}
-use Rattle.figure.proofs.numbers.signed_number.Needs as need
-
-pub returns-in-45 : need.returns-in-45
-returns-in-45 c = let behind = ap spelled (take-rest (c .args .field .now) 1) in search needs

@@ -1,7 +1,0 @@
-use native.Mathlib.Omega.{arith}
-use borrow.Author.Needs.{needs}
-use Rattle.script.proofs.LineEnds.{no-lines}
-use Rattle.script.proofs.lines.LineCursor.next_line.Needs as need
-
-pub returns-then-is-empty : need.returns-then-is-empty
-returns-then-is-empty c = search (needs, no-lines)
