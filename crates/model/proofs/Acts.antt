@@ -13,6 +13,7 @@ use Rattle.model.specs.declared.messages.MessageKind.{MessageKind}
 use Rattle.model.specs.declared.replica.Replica.{Replica}
 use Rattle.model.specs.declared.marks.RelayMark.{RelayMark}
 use Rattle.model.specs.declared.messages.Message.{Message}
+use Rattle.model.specs.Stamps.{rank}
 use Rattle.model.specs.State.{State, Held, index, new-replica, new-mark, replica, line, held, halted, with-marks, with-held}
 use Rattle.model.specs.Records.{took, ended}
 use Rattle.model.specs.Deliveries.{Effect, carried, on-offer}
@@ -25,15 +26,15 @@ use Rattle.model.proofs.Good.{True, Store, MarkGood, Told, Good, Kept, true-la
 use Rattle.model.proofs.Steps.{delivery}
 
 pub record Takes {F : Type 0} (w : World F) (own offered x : Held F) : Type 0 where
-  pub above-own : own .stamp ≤ x .stamp
-  pub above-offered : offered .stamp ≤ x .stamp
+  pub above-own : rank (own .stamp) ≤ rank (x .stamp)
+  pub above-offered : rank (offered .stamp) ≤ rank (x .stamp)
   pub true-figure : True w (x .stamp) (x .figure)
 
 pub takes : {F : Type 0} (w : World F) (own offered : Held F) → True w (own .stamp) (own .figure) → True w (offered .stamp) (offered .figure) → Takes w own offered (took own offered)
 takes w own offered a b =
-    cond-both (ltb (own .stamp) (offered .stamp)) offered own (Takes w own offered)
-    (λ e. record { above-own = omega (arith, ltb-true (own .stamp) (offered .stamp) e); above-offered = omega arith; true-figure = b })
-    (λ e. record { above-own = omega arith; above-offered = ltb-false (own .stamp) (offered .stamp) e; true-figure = a })
+    cond-both (ltb (rank (own .stamp)) (rank (offered .stamp))) offered own (Takes w own offered)
+    (λ e. record { above-own = omega (arith, ltb-true (rank (own .stamp)) (rank (offered .stamp)) e); above-offered = omega arith; true-figure = b })
+    (λ e. record { above-own = omega arith; above-offered = ltb-false (rank (own .stamp)) (rank (offered .stamp)) e; true-figure = a })
 
 module _ {F : Type 0} (q : Rule) (R : ℕ) (law : Lawful q) (start : F) (w : World F) (s : State F) (h : History F) (g : Good q R start w s h) where
   -- Replica c now holds x.
@@ -45,19 +46,19 @@ module _ {F : Type 0} (q : Rule) (R : ℕ) (law : Lawful q) (start : F) (w : Wor
     reps = set (s .replicas) c taken-by
 
     abbrev bt : ℕ → ℕ
-    bt k = (getD reps k (new-replica (s .start))) .stamp
+    bt k = rank ((getD reps k (new-replica (s .start))) .stamp)
 
     rise : (k : ℕ) → w .at k ≤ bt k
-    rise = each-set-all (λ k y. w .at k ≤ y .stamp) (s .replicas) c taken-by _ (omega (arith, tk .above-own, g .at-is c)) (λ k. omega (arith, g .at-is k))
+    rise = each-set-all (λ k y. w .at k ≤ rank (y .stamp)) (s .replicas) c taken-by _ (omega (arith, tk .above-own, g .at-is c)) (λ k. omega (arith, g .at-is k))
 
-    truths : (k : ℕ) → True w (bt k) ((getD reps k (new-replica (s .start))) .figure)
+    truths : (k : ℕ) → True w ((getD reps k (new-replica (s .start))) .stamp) ((getD reps k (new-replica (s .start))) .figure)
     truths = each-set-all (λ k y. True w (y .stamp) (y .figure)) (s .replicas) c taken-by _ (tk .true-figure) (g .figures)
 
     -- Its stamp is now that of what it holds.
-    pub there : bt c ≡ x .stamp
-    there = ap (λ y. y .stamp) (get-set (s .replicas) c taken-by (new-replica (s .start)) (omega (arith, g .replicas-are)))
+    pub there : bt c ≡ rank (x .stamp)
+    there = ap (λ y. rank (y .stamp)) (get-set (s .replicas) c taken-by (new-replica (s .start)) (omega (arith, g .replicas-are)))
 
-    pub covers : offered .stamp ≤ bt c
+    pub covers : rank (offered .stamp) ≤ bt c
     covers = omega (arith, there, tk .above-offered)
 
     abbrev pub v₂ : World F
@@ -76,7 +77,7 @@ module _ {F : Type 0} (q : Rule) (R : ℕ) (law : Lawful q) (start : F) (w : Wor
         → Good q R start v₂ (with-marks (with-held s c x) k) (h ++ e ∷ [])
     raises k e marks told =
         advance q R start w v₂ up₂ s _ h e g (record {
-          core = core-raised q law w bt rise (λ c. truths c .low) (g .core);
+          core = core-raised q law w bt rise (λ c. truths c .written .low) (g .core);
           start-is = g .start-is;
           now-is = refl;
           count-is = g .count-is;

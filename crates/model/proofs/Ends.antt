@@ -19,6 +19,7 @@ use Rattle.model.specs.declared.messages.Message.{Message}
 use Rattle.model.specs.declared.journal.Operation.{Operation}
 use Rattle.model.specs.declared.calls.Call.{Call}
 use Rattle.model.specs.declared.answers.Reply.{Reply}
+use Rattle.model.specs.Stamps.{rank}
 use Rattle.model.specs.State.{State, Held, new-reader, new-mark, no-line, line, with-reader}
 use Rattle.model.specs.Records.{one-more, ended}
 use Rattle.model.specs.Deliveries.{finish-event, finishing, on}
@@ -32,7 +33,7 @@ use Rattle.model.proofs.Good.{code, apart-reader, current, Says, InPhase, Writ
 use Rattle.model.proofs.Steps.{delivery, work-later}
 
 pub line-none : {F : Type 0} (w : World F) (o : Op) (l : Operation F) → o .stage ≡ 0 → LineGood w o l
-line-none w o l e = record { owner-is = λ a. absurd (omega arith); write-stamp = λ a. absurd (omega arith); write-figure = λ a. absurd (omega arith) }
+line-none w o l e = record { owner-is = λ a. absurd (omega arith); write-rank = λ a. absurd (omega arith); write-value = λ a. absurd (omega arith) }
 
 module _ {F : Type 0} (q : Rule) (R : ℕ) (law : Lawful q) (start : F) (w : World F) (s : State F) (h : History F) (g : Good q R start w s h) where
   -- Operation j is now o, and nothing else has changed in the world.
@@ -68,9 +69,9 @@ module _ {F : Type 0} (q : Rule) (R : ℕ) (law : Lawful q) (start : F) (w : Wor
     here : v₃ .ops j ≡ E
     here = put-same (w .ops) j E
 
-    module _ (nl : Operation F) (owner-is : nl .owner ≡ (line s j) .owner) (x : Held F) (stamp-is : x .stamp ≡ a) (figure-is : x .figure ≡ w .fig a) (line-stamp : nl .stamp ≡ x .stamp) (line-figure : nl .figure ≡ x .figure) where
+    module _ (nl : Operation F) (owner-is : nl .owner ≡ (line s j) .owner) (x : Held F) (rank-is : rank (x .stamp) ≡ a) (value-is : x ≡ w .value a) (line-is : record { stamp = nl .stamp; figure = nl .figure } ≡ x) where
       line-new : LineGood v₃ E nl
-      line-new = record { owner-is = λ _. owner-is ∙ g .lines j .owner-is born; write-stamp = λ _ _. line-stamp ∙ stamp-is; write-figure = λ _ _. line-figure ∙ figure-is }
+      line-new = record { owner-is = λ _. owner-is ∙ g .lines j .owner-is born; write-rank = λ _ _. ap (λ y. rank (y .stamp)) line-is ∙ rank-is; write-value = λ _ _. line-is ∙ value-is }
 
       in-book : pred j < length (s .journal)
       in-book = omega (arith, g .core .op j .counted born, g .core .op j .named born, g .count-is)
@@ -127,7 +128,7 @@ module _ {F : Type 0} (q : Rule) (R : ℕ) (law : Lawful q) (start : F) (w : Wor
               start-is = g .start-is;
               now-is = refl;
               count-is = omega (arith, g .count-is, length-set (s .journal) (pred j) nl);
-              last-is = g .last-is ∙ sym same-last;
+              last-is = g .last-is ∙ ap rank (sym same-last);
               at-is = g .at-is;
               figures = λ c. true-later q R start w v₃ up₃ (g .figures c);
               replicas-are = g .replicas-are;
@@ -140,12 +141,12 @@ module _ {F : Type 0} (q : Rule) (R : ℕ) (law : Lawful q) (start : F) (w : Wor
               at-work = work₃;
               told = record {
                 answers = subst (Answers v₃ (length h) (ev .call) (ev .sent)) (sym reply-is)
-                    (record { stage-is = omega (arith, ap (λ y. y .stage) here); ended-is = ap (λ y. y .ended) here ∙ g .now-is; aim-is = ap (λ y. y .aim) here ∙ sym stamp-is; figure-is = ap (w .fig) stamp-is ∙ sym figure-is });
+                    (record { stage-is = omega (arith, ap (λ y. y .stage) here); ended-is = ap (λ y. y .ended) here ∙ g .now-is; aim-is = ap (λ y. y .aim) here ∙ sym rank-is; value-is = ap (λ y. w .value (y .aim)) here ∙ sym value-is });
                 sent-says = subst (All (λ a. Says q R v₃ (a .kind) a)) (sym no-sent) tt;
               };
               begun = put-each (λ i o. 1 ≤ o .stage → (1 ≤ (w .ops i) .stage) ⊎ ((o .begun ≡ length h) × (ev .reply ≡ Reply.Started i))) (w .ops) j E (λ _. inl born) (λ i _ l. inl l);
-              ended = put-each (λ i o. 3 ≤ o .stage → (3 ≤ (w .ops i) .stage) ⊎ ((o .ended ≡ length h) × Finishes ev i (record { stamp = o .aim; figure = w .fig (o .aim) }))) (w .ops) j E
-                  (λ _. inr (g .now-is, (subst (λ c. delivering c ≡ true) (sym call-is) refl, (sent, exchanges, reply-is ∙ (λ i. Reply.Finished j (stamp-is i) (figure-is i) sent exchanges))))) (λ i _ l. inl l);
+              ended = put-each (λ i o. 3 ≤ o .stage → (3 ≤ (w .ops i) .stage) ⊎ ((o .ended ≡ length h) × Finishes ev i (w .value (o .aim)))) (w .ops) j E
+                  (λ _. inr (g .now-is, (subst (λ c. delivering c ≡ true) (sym call-is) refl, (sent, exchanges, reply-is ∙ ap (λ y. Reply.Finished j (y .stamp) (y .figure) sent exchanges) value-is)))) (λ i _ l. inl l);
             })
 
   -- Reader r finishes operation j.
@@ -167,13 +168,13 @@ module _ {F : Type 0} (q : Rule) (R : ℕ) (law : Lawful q) (start : F) (w : Wor
     -- Read j, settled on a, finishes with what its reader shows.
     pub read-ends : (a : ℕ) (born : 1 ≤ (w .ops j) .stage) (unfinished : (w .ops j) .stage ≤ 2) (aims : 2 ≤ (w .ops j) .stage → a ≡ (w .ops j) .aim)
         (new : OpGood q (changed w j (ended-op (w .ops j) a (w .now))) j (ended-op (w .ops j) a (w .now)))
-        (x : Held F) → x .stamp ≡ a → x .figure ≡ w .fig a → d .phase ≡ Phase.Idle → (place : ℕ) (taken : List (Message F)) (exchanges : ℕ)
+        (x : Held F) → rank (x .stamp) ≡ a → x ≡ w .value a → d .phase ≡ Phase.Idle → (place : ℕ) (taken : List (Message F)) (exchanges : ℕ)
         → Kept q R start h (delivery place taken) (finishing (with-reader s r d) j x exchanges)
-    read-ends a born unfinished aims new x stamp-is figure-is idle place taken exchanges = record {
+    read-ends a born unfinished aims new x rank-is value-is idle place taken exchanges = record {
       world = changed w j (ended-op (w .ops j) a (w .now));
       good =
           let on = onward-ended (w .ops j) a (w .now) unfinished aims in
-          ends j a born unfinished aims new (ended (line s j) (finish-event s) x exchanges) refl x stamp-is figure-is refl refl
+          ends j a born unfinished aims new (ended (line s j) (finish-event s) x exchanges) refl x rank-is value-is refl
           (set (s .readers) r d) (s .writer) refl free-reader other-readers apart-owner (one-more (s .finished)) _ ((line s j) .sent) exchanges refl refl place refl
           (length-set (s .readers) r d ∙ g .readers-are)
           (readers-changed j _ on r d owner-is (rw idle tt))

@@ -15,14 +15,13 @@ use Rattle.model.specs.declared.answers.Reply.{Reply}
 use Rattle.model.specs.declared.answers.Refusal.{Refusal}
 use Rattle.model.specs.State.{State, without, fresh}
 use Rattle.model.specs.Sound.{each, each-from, sets-within, messages-addressed, messages-booked, readers-placed, sound}
-use Rattle.model.specs.Records.{heard, lowered, marked}
-use Rattle.model.specs.Deliveries.{to-all, on-offer, on-put-ack, on-query, on-have, on-back-ack, on-reply, on-fan, on-relay, on, received}
 use Rattle.model.specs.Steps.{counted, write, read, deliver, dropped, duplicated, halt, done, tests, refusal, step}
 use Rattle.model.specs.History.{Run, run, replies}
+use Rattle.model.proofs.Opened.{opened}
 
 -- The answers of a list of calls on a new register, and the state after them.
 played : {F : Type 0} → Rule → F → ℕ → ℕ → ℕ → List (Call F) → List (Reply F) × State F
-unfolding bits joined count every some without fresh each each-from sets-within messages-addressed messages-booked readers-placed sound heard lowered marked to-all on-offer on-put-ack on-query on-have on-back-ack on-reply on-fan on-relay on received counted write read deliver dropped duplicated halt done tests refusal step run
+unfolding opened
 played {F} rule start readers message-room journal-room calls =
     let r : Run F = run rule (fresh rule start readers message-room journal-room) calls in
     (replies (r .history), r .state)

@@ -21,13 +21,15 @@ use Rattle.model.specs.declared.messages.Message.{Message}
 use Rattle.model.specs.declared.journal.Operation.{Operation}
 use Rattle.model.specs.declared.calls.Call.{Call}
 use Rattle.model.specs.declared.answers.Reply.{Reply}
-use Rattle.model.specs.State.{State, Held, index, new-reader, new-mark, replica, reader, line}
+use Rattle.model.specs.Stamps.{Stamp, rank}
+use Rattle.model.specs.State.{State, Held, index, unused, new-reader, new-mark, replica, reader, line}
 use Rattle.model.specs.Deliveries.{Effect}
 use Rattle.model.specs.Steps.{Outcome}
 use Rattle.model.specs.History.{Event, History, event}
 use Rattle.model.specs.Claims.{At, In, Finishes}
 use Rattle.model.proofs.Lists.{length-push, at-old, at-new, at-cases}
-use Rattle.model.proofs.World.{held, Op, World, Later, Core}
+use Rattle.model.proofs.Ranks.{rank-start}
+use Rattle.model.proofs.World.{held, Op, World, Later, Written, written-later, Core}
 
 -- A number for each party.
 abbrev pub code : Party → ℕ
@@ -52,14 +54,20 @@ current start writing readers (Party.Reader r) = (getD readers r (new-reader sta
 current start writing readers (Party.Replica c) = 0
 
 module _ {F : Type 0} where
-  -- The figure is that of the stamp.
-  pub record True (w : World F) (s : ℕ) (f : F) : Type 0 where
-    pub low : s ≤ w .last
-    pub is : f ≡ w .fig s
+  -- The figure is what was written under the stamp.
+  pub record True (w : World F) (s : Stamp) (f : F) : Type 0 where
+    pub written : Written w (rank s)
+    pub is : record { stamp = s; figure = f } ≡ w .value (rank s)
+
+  -- What the register starts with is true.
+  pub start-true : (w : World F) (start : F) → w .value 0 ≡ unused start → (x : Held F) → x ≡ unused start → True w (x .stamp) (x .figure)
+  start-true w start v x e =
+      let z : rank (x .stamp) ≡ 0 = ap (λ y. rank (y .stamp)) e ∙ rank-start in
+      record { written = record { low = omega arith; by-one = λ p. absurd (omega arith) }; is = e ∙ sym v ∙ ap (w .value) (sym z) }
 
   pub record Store (q : Rule) (w : World F) (m : Message F) : Type 0 where
     pub settled : 2 ≤ (w .ops (m .operation)) .stage
-    pub aims : m .stamp ≡ (w .ops (m .operation)) .aim
+    pub aims : rank (m .stamp) ≡ (w .ops (m .operation)) .aim
     pub true-figure : True w (m .stamp) (m .figure)
     pub to-low : index (m .receiver) < q .size
 
@@ -70,8 +78,8 @@ module _ {F : Type 0} where
 
   pub record Report (w : World F) (m : Message F) : Type 0 where
     pub born : 1 ≤ (w .ops (m .operation)) .stage
-    pub fresh : (w .ops (m .operation)) .snap (index (m .sender)) ≤ m .stamp
-    pub grown : m .stamp ≤ w .at (index (m .sender))
+    pub fresh : (w .ops (m .operation)) .snap (index (m .sender)) ≤ rank (m .stamp)
+    pub grown : rank (m .stamp) ≤ w .at (index (m .sender))
     pub true-figure : True w (m .stamp) (m .figure)
     pub to-owner : m .receiver ≡ (w .ops (m .operation)) .owner
 
@@ -85,15 +93,15 @@ module _ {F : Type 0} where
     pub born : 1 ≤ (w .ops (m .operation)) .stage
     pub owner-low : index ((w .ops (m .operation)) .owner) < R
     pub owner-reads : (w .ops (m .operation)) .owner ≡ Party.Reader (index ((w .ops (m .operation)) .owner))
-    pub fresh : (w .ops (m .operation)) .snap (index (m .sender)) ≤ m .stamp
+    pub fresh : (w .ops (m .operation)) .snap (index (m .sender)) ≤ rank (m .stamp)
     pub true-figure : True w (m .stamp) (m .figure)
     pub to-low : index (m .receiver) < q .size
 
   -- No stamp above the reply's was held when the operation began.
   pub record Settling (q : Rule) (w : World F) (m : Message F) : Type 0 where
     pub born : 1 ≤ (w .ops (m .operation)) .stage
-    pub high : (t : ℕ) → m .stamp < t → held q ((w .ops (m .operation)) .snap) t ≡ false
-    pub grown : m .stamp ≤ w .at (index (m .sender))
+    pub high : (t : ℕ) → rank (m .stamp) < t → held q ((w .ops (m .operation)) .snap) t ≡ false
+    pub grown : rank (m .stamp) ≤ w .at (index (m .sender))
     pub true-figure : True w (m .stamp) (m .figure)
     pub to-owner : m .receiver ≡ (w .ops (m .operation)) .owner
 
@@ -113,24 +121,24 @@ module _ {F : Type 0} where
     pub owner-is : (w .ops (d .operation)) .owner ≡ Party.Reader r
     pub reads : (w .ops (d .operation)) .reading ≡ true
     pub true-figure : True w (d .«best_stamp») (d .«best_figure»)
-    pub asked : (c : ℕ) → bits (d .replies) c ≡ true → (w .ops (d .operation)) .snap c ≤ d .«best_stamp»
-    pub holding : (c : ℕ) → bits (d .holders) c ≡ true → d .«best_stamp» ≤ w .at c
+    pub asked : (c : ℕ) → bits (d .replies) c ≡ true → (w .ops (d .operation)) .snap c ≤ rank (d .«best_stamp»)
+    pub holding : (c : ℕ) → bits (d .holders) c ≡ true → rank (d .«best_stamp») ≤ w .at c
 
   pub record Second (w : World F) (r : ℕ) (d : Reader F) : Type 0 where
     pub stage-is : (w .ops (d .operation)) .stage ≡ 2
     pub owner-is : (w .ops (d .operation)) .owner ≡ Party.Reader r
     pub reads : (w .ops (d .operation)) .reading ≡ true
     pub true-figure : True w (d .«best_stamp») (d .«best_figure»)
-    pub aims : d .«best_stamp» ≡ (w .ops (d .operation)) .aim
-    pub placed : (c : ℕ) → bits (d .replies) c ≡ true → d .«best_stamp» ≤ w .at c
+    pub aims : rank (d .«best_stamp») ≡ (w .ops (d .operation)) .aim
+    pub placed : (c : ℕ) → bits (d .replies) c ≡ true → rank (d .«best_stamp») ≤ w .at c
 
   pub record Relaying (q : Rule) (w : World F) (r : ℕ) (d : Reader F) : Type 0 where
     pub stage-is : (w .ops (d .operation)) .stage ≡ 1
     pub owner-is : (w .ops (d .operation)) .owner ≡ Party.Reader r
     pub reads : (w .ops (d .operation)) .reading ≡ true
     pub true-figure : True w (d .«best_stamp») (d .«best_figure»)
-    pub high : (d .replies ≡ 0 → ⊥) → (t : ℕ) → d .«best_stamp» < t → held q ((w .ops (d .operation)) .snap) t ≡ false
-    pub placed : (c : ℕ) → bits (d .replies) c ≡ true → d .«best_stamp» ≤ w .at c
+    pub high : (d .replies ≡ 0 → ⊥) → (t : ℕ) → rank (d .«best_stamp») < t → held q ((w .ops (d .operation)) .snap) t ≡ false
+    pub placed : (c : ℕ) → bits (d .replies) c ≡ true → rank (d .«best_stamp») ≤ w .at c
 
   abbrev pub InPhase : Rule → World F → ℕ → Phase → Reader F → Type 0
   InPhase q w r Phase.Idle d = Unit {0}
@@ -152,8 +160,8 @@ module _ {F : Type 0} where
 
   pub record LineGood (w : World F) (o : Op) (l : Operation F) : Type 0 where
     pub owner-is : 1 ≤ o .stage → l .owner ≡ o .owner
-    pub write-stamp : 1 ≤ o .stage → o .reading ≡ false → l .stamp ≡ o .aim
-    pub write-figure : 1 ≤ o .stage → o .reading ≡ false → l .figure ≡ w .fig (o .aim)
+    pub write-rank : 1 ≤ o .stage → o .reading ≡ false → rank (l .stamp) ≡ o .aim
+    pub write-value : 1 ≤ o .stage → o .reading ≡ false → record { stamp = l .stamp; figure = l .figure } ≡ w .value (o .aim)
 
   -- What the party of operation j, which is o, is at: j, if it is not finished, and no older one.
   pub record AtWork (start : F) (writing : ℕ) (readers : List (Reader F)) (j : ℕ) (o : Op) : Type 0 where
@@ -162,11 +170,11 @@ module _ {F : Type 0} where
 
   -- What the event at place m says by its answer.
 
-  pub record Ends (w : World F) (m j s : ℕ) (f : F) : Type 0 where
+  pub record Ends (w : World F) (m j : ℕ) (x : Held F) : Type 0 where
     pub stage-is : 3 ≤ (w .ops j) .stage
     pub ended-is : (w .ops j) .ended ≡ m
-    pub aim-is : (w .ops j) .aim ≡ s
-    pub figure-is : w .fig s ≡ f
+    pub aim-is : (w .ops j) .aim ≡ rank (x .stamp)
+    pub value-is : w .value ((w .ops j) .aim) ≡ x
 
   -- Some PUT of operation j was sent.
   abbrev pub Puts : ℕ → List (Message F) → Type 0
@@ -175,7 +183,7 @@ module _ {F : Type 0} where
   pub record OpensWrite (w : World F) (j : ℕ) (f : F) (sent : List (Message F)) : Type 0 where
     pub writes : (w .ops j) .reading ≡ false
     pub settled : 2 ≤ (w .ops j) .stage
-    pub figure-is : w .fig ((w .ops j) .aim) ≡ f
+    pub figure-is : (w .value ((w .ops j) .aim)) .figure ≡ f
     pub aim-low : (w .ops j) .aim ≤ w .last
     pub owner-is : (w .ops j) .owner ≡ Party.Writer
     pub puts : Puts j sent
@@ -199,7 +207,7 @@ module _ {F : Type 0} where
 
   abbrev pub Answers : World F → ℕ → Call F → List (Message F) → Reply F → Type 0
   Answers w m c sent (Reply.Started j) = Begins w m j c sent
-  Answers w m c sent (Reply.Finished j s f n x) = Ends w m j s f
+  Answers w m c sent (Reply.Finished j s f n x) = Ends w m j (record { stamp = s; figure = f })
   Answers w m c sent Reply.Done = Unit {0}
   Answers w m c sent (Reply.Declined e) = Unit {0}
 
@@ -208,7 +216,7 @@ module _ {F : Type 0} where
     pub sent-says : All (λ a. Says q R w (a .kind) a) (e .sent)
 
   abbrev pub shown : World F → ℕ → Held F
-  shown w j = record { stamp = (w .ops j) .aim; figure = w .fig ((w .ops j) .aim) }
+  shown w j = w .value ((w .ops j) .aim)
 
   abbrev pub BegunAt : History F → ℕ → ℕ → Type 0
   BegunAt h m j = (e : Event F) × At h m e × (e .reply ≡ Reply.Started j)
@@ -219,12 +227,12 @@ module _ {F : Type 0} where
   module _ (q : Rule) (R : ℕ) (start : F) where
     pub record Good (w : World F) (s : State F) (h : History F) : Type 0 where
       pub core : Core q w
-      pub first-fig : w .fig 0 ≡ start
+      pub first-value : w .value 0 ≡ unused start
       pub start-is : s .start ≡ start
       pub now-is : w .now ≡ length h
       pub count-is : w .count ≡ length (s .journal)
-      pub last-is : w .last ≡ s .writer .last
-      pub at-is : (c : ℕ) → w .at c ≡ (replica s c) .stamp
+      pub last-is : w .last ≡ rank (s .writer .last)
+      pub at-is : (c : ℕ) → w .at c ≡ rank ((replica s c) .stamp)
       pub figures : (c : ℕ) → True w ((replica s c) .stamp) ((replica s c) .figure)
       pub replicas-are : length (s .replicas) ≡ q .size
       pub messages : All (λ m. Says q R w (m .kind) m) (s .messages)
@@ -248,8 +256,8 @@ module _ {F : Type 0} where
       pub good : Good world (o .next) (h ++ event c o ∷ [])
 
     module _ (w v : World F) (up : Later q w v) where
-      pub true-later : {s : ℕ} {f : F} → True w s f → True v s f
-      true-later {s} t = record { low = omega (arith, t .low, up .last-up); is = t .is ∙ sym (up .same-fig s (t .low)) }
+      pub true-later : {s : Stamp} {f : F} → True w s f → True v s f
+      true-later {s} t = record { written = written-later q w v up (t .written); is = t .is ∙ sym (up .same-value (rank s) (t .written .low)) }
 
       store-later : (m : Message F) → Store q w m → Store q v m
       store-later m x = let u = up .ops-up (m .operation) in record {
@@ -366,8 +374,8 @@ module _ {F : Type 0} where
           let o = g .op j in
           record {
             owner-is = x .owner-is;
-            write-stamp = x .write-stamp;
-            write-figure = λ s e. x .write-figure s e ∙ sym (up .same-fig ((w .ops j) .aim) (o .aim-low (o .write-settled s e)));
+            write-rank = x .write-rank;
+            write-value = λ s e. x .write-value s e ∙ sym (up .same-value ((w .ops j) .aim) (o .aim-written (o .write-settled s e) .low));
           }
 
       opens-later : (j : ℕ) → 1 ≤ (w .ops j) .stage → (c : Call F) (sent : List (Message F)) → Opens w j c sent → Opens v j c sent
@@ -377,7 +385,7 @@ module _ {F : Type 0} where
           record {
             writes = u .same-reading b ∙ x .writes;
             settled = omega (arith, x .settled, u .stage-up);
-            figure-is = ap (v .fig) e ∙ up .same-fig ((w .ops j) .aim) (x .aim-low) ∙ x .figure-is;
+            figure-is = ap (λ y. y .figure) (ap (v .value) e ∙ up .same-value ((w .ops j) .aim) (x .aim-low)) ∙ x .figure-is;
             aim-low = omega (arith, x .aim-low, up .last-up);
             owner-is = u .same-owner b ∙ x .owner-is;
             puts = x .puts;
@@ -396,11 +404,12 @@ module _ {F : Type 0} where
       }
       answers-later g m c sent (Reply.Finished j s f n y) x =
           let u = up .ops-up j in
+          let a = u .same-aim (omega (arith, x .stage-is)) in
           record {
             stage-is = omega (arith, x .stage-is, u .stage-up);
             ended-is = u .same-ended (x .stage-is) ∙ x .ended-is;
-            aim-is = u .same-aim (omega (arith, x .stage-is)) ∙ x .aim-is;
-            figure-is = up .same-fig s (omega (arith, g .op j .aim-low (omega (arith, x .stage-is)), x .aim-is)) ∙ x .figure-is;
+            aim-is = a ∙ x .aim-is;
+            value-is = ap (v .value) a ∙ up .same-value ((w .ops j) .aim) (g .op j .aim-written (omega (arith, x .stage-is)) .low) ∙ x .value-is;
           }
       answers-later g m c sent Reply.Done x = tt
       answers-later g m c sent (Reply.Declined e) x = tt
@@ -414,8 +423,8 @@ module _ {F : Type 0} where
         pub start-is : s .start ≡ start
         pub now-is : v .now ≡ suc (w .now)
         pub count-is : v .count ≡ length (s .journal)
-        pub last-is : v .last ≡ s .writer .last
-        pub at-is : (c : ℕ) → v .at c ≡ (replica s c) .stamp
+        pub last-is : v .last ≡ rank (s .writer .last)
+        pub at-is : (c : ℕ) → v .at c ≡ rank ((replica s c) .stamp)
         pub figures : (c : ℕ) → True v ((replica s c) .stamp) ((replica s c) .figure)
         pub replicas-are : length (s .replicas) ≡ q .size
         pub messages : All (λ m. Says q R v (m .kind) m) (s .messages)
@@ -432,7 +441,7 @@ module _ {F : Type 0} where
       pub advance : (s s′ : State F) (h : History F) (e : Event F) → Good w s h → Gives s′ h e → Good v s′ (h ++ e ∷ [])
       advance s s′ h e g n = record {
         core = n .core;
-        first-fig = up .same-fig 0 (omega arith) ∙ g .first-fig;
+        first-value = up .same-value 0 (omega arith) ∙ g .first-value;
         start-is = n .start-is;
         now-is = omega (arith, n .now-is, g .now-is, length-push h e);
         count-is = n .count-is;
@@ -458,8 +467,9 @@ module _ {F : Type 0} where
         ended = λ j l. elim (n .ended j l) [
           | inl o ↦
               let b = g .ended j o in
-              rw (up .ops-up j .same-ended o, up .ops-up j .same-aim (omega arith), up .same-fig ((w .ops j) .aim) (g .core .op j .aim-low (omega arith)))
-              (b .0, at-old h e ((w .ops j) .ended) (b .0) (b .1), b .2)
+              let a = up .ops-up j .same-aim (omega arith) in
+              let k : shown v j ≡ shown w j = ap (v .value) a ∙ up .same-value ((w .ops j) .aim) (g .core .op j .aim-written (omega arith) .low) in
+              rw (up .ops-up j .same-ended o) (b .0, at-old h e ((w .ops j) .ended) (b .0) (b .1), subst (Finishes (b .0) j) (sym k) (b .2))
           | inr d ↦ rw (d .0) (e, at-new h e, d .1)
         ];
       }

@@ -20,6 +20,7 @@ use Rattle.model.specs.declared.journal.OperationKind.{OperationKind}
 use Rattle.model.specs.declared.reader.Reader.{Reader}
 use Rattle.model.specs.declared.marks.RelayMark.{RelayMark}
 use Rattle.model.specs.declared.messages.Message.{Message}
+use Rattle.model.specs.Stamps.{rank}
 use Rattle.model.specs.State.{State, Held, index, unused, new-reader, no-line, reader, line, mark, mark-place, held, halted, with-reader, with-held, with-mark}
 use Rattle.model.specs.Records.{took, best, heard, confirmed, lowered, placing, reader-freed, marked, mark-replied, acknowledged}
 use Rattle.model.specs.Sound.{a-reader, a-replica, suits, owned, booked, idle, is-reader, placed, in-journal, is-read, is-round-read, is-relay-read}
@@ -186,7 +187,7 @@ module _ {F : Type 0} where
     lowered-pending : (n : ℕ) (d : Reader F) (c : ℕ) (x : Held F) → pending (rule .size) n (lowered d c x) ≤ pending (rule .size) n d
     unfolding lowered
     lowered-pending n d c x =
-        cond-both (eqb (d .replies) 0 || ltb (x .stamp) (d .«best_stamp»)) _ _ (λ (y : Reader F). pending (rule .size) n y ≤ pending (rule .size) n d) (λ _. omega arith) (λ _. omega arith)
+        cond-both (eqb (d .replies) 0 || ltb (rank (x .stamp)) (rank (d .«best_stamp»))) _ _ (λ (y : Reader F). pending (rule .size) n y ≤ pending (rule .size) n d) (λ _. omega arith) (λ _. omega arith)
 
     reply-handled : Handled rule s m (on-reply rule s m)
     unfolding on-reply
@@ -201,8 +202,8 @@ module _ {F : Type 0} where
     heard-same : (d : Reader F) (c : ℕ) (x : Held F) → ((heard d c x) .operation ≡ d .operation) × ((heard d c x) .phase ≡ d .phase)
     unfolding heard
     heard-same d c x =
-        cond-both (ltb (d .«best_stamp») (x .stamp)) _ _ Same (λ _. (refl, refl))
-        (λ _. cond-both (eqb (d .«best_stamp») (x .stamp)) _ _ Same (λ _. (refl, refl)) (λ _. (refl, refl)))
+        cond-both (ltb (rank (d .«best_stamp»)) (rank (x .stamp))) _ _ Same (λ _. (refl, refl))
+        (λ _. cond-both (eqb (rank (d .«best_stamp»)) (rank (x .stamp))) _ _ Same (λ _. (refl, refl)) (λ _. (refl, refl)))
       where
         Same : Reader F → Type 0
         Same y = (y .operation ≡ d .operation) × (y .phase ≡ d .phase)

@@ -15,6 +15,7 @@ use Rattle.model.specs.declared.messages.MessageKind.{MessageKind}
 use Rattle.model.specs.declared.reader.Reader.{Reader}
 use Rattle.model.specs.declared.messages.Message.{Message}
 use Rattle.model.specs.declared.answers.Reply.{Reply}
+use Rattle.model.specs.Stamps.{rank}
 use Rattle.model.specs.State.{State, index, new-mark, reader, line, held, with-reader}
 use Rattle.model.specs.Records.{best, reading, heard, confirmed, placing, reader-freed, ended}
 use Rattle.model.specs.Deliveries.{Effect, quiet, sending, to-all, carried, in-first, in-second, counts, read-finishing, is-quick, after-have, on-have-at, on-have, after-last, on-back-ack-at, on-back-ack}
@@ -51,25 +52,25 @@ module _ {F : Type 0} (q : Rule) (R : ℕ) (law : Lawful q) (start : F) (w : Wor
     abbrev j : ℕ
     j = d .operation
 
-    above-best : q .round (bits (d .replies)) ≡ true → (t : ℕ) → d .«best_stamp» < t → world.held q ((w .ops j) .snap) t ≡ false
+    above-best : q .round (bits (d .replies)) ≡ true → (t : ℕ) → rank (d .«best_stamp») < t → world.held q ((w .ops j) .snap) t ≡ false
     above-best b t l = not-held q law (bits (d .replies)) ((w .ops j) .snap) t b (λ c m. omega (arith, x .asked c m))
 
     first-ends : q .round (bits (d .replies)) ≡ true → q .hold (bits (d .holders)) ≡ true → K (read-finishing s r d 2)
     first-ends b k =
         let st = x .stage-is in
-        let hold = held-from q law (bits (d .holders)) (w .at) (d .«best_stamp») k (x .holding) in
-        let new = good-quick q law w (g .core) j (d .«best_stamp») st (x .reads) (x .true-figure .low) (above-best b) hold in
-        read-ends q R law start w s h g j r (x .owner-is) (reader-freed d) refl (d .«best_stamp») (omega arith) (omega arith) (λ l. absurd (omega arith)) new (best d) refl (x .true-figure .is) refl place taken 2
+        let hold = held-from q law (bits (d .holders)) (w .at) (rank (d .«best_stamp»)) k (x .holding) in
+        let new = good-quick q law w (g .core) j (rank (d .«best_stamp»)) st (x .reads) (x .true-figure .written) (above-best b) hold in
+        read-ends q R law start w s h g j r (x .owner-is) (reader-freed d) refl (rank (d .«best_stamp»)) (omega arith) (omega arith) (λ l. absurd (omega arith)) new (best d) refl (x .true-figure .is) refl place taken 2
 
     module _ (b : q .round (bits (d .replies)) ≡ true) where
       abbrev o₄ : Op
-      o₄ = moves.settled (w .ops j) (d .«best_stamp»)
+      o₄ = moves.settled (w .ops j) (rank (d .«best_stamp»))
 
       abbrev v₄ : World F
       v₄ = changed w j o₄
 
       on₄ : Onward (w .ops j) o₄
-      on₄ = onward-settled (w .ops j) (d .«best_stamp») (x .stage-is)
+      on₄ = onward-settled (w .ops j) (rank (d .«best_stamp»)) (x .stage-is)
 
       up₄ : Later q w v₄
       up₄ = later-changed q law w j o₄ on₄
@@ -100,7 +101,7 @@ module _ {F : Type 0} (q : Rule) (R : ℕ) (law : Lawful q) (start : F) (w : Wor
       settles = record {
         world = v₄;
         good = advance q R start w v₄ up₄ s _ h _ g (record {
-          core = core-changed q law w j o₄ on₄ (good-settled q law w (g .core) j (d .«best_stamp») (x .stage-is) (x .reads) (x .true-figure .low) (above-best b)) (g .core);
+          core = core-changed q law w j o₄ on₄ (good-settled q law w (g .core) j (rank (d .«best_stamp»)) (x .stage-is) (x .reads) (x .true-figure .written) (above-best b)) (g .core);
           start-is = g .start-is;
           now-is = refl;
           count-is = g .count-is;
@@ -116,8 +117,8 @@ module _ {F : Type 0} (q : Rule) (R : ℕ) (law : Lawful q) (start : F) (w : Wor
           lines = put-each (λ i o. LineGood v₄ o (line s i)) (w .ops) j o₄
               (let l = g .lines j in let st = x .stage-is in record {
                 owner-is = λ _. l .owner-is (omega arith);
-                write-stamp = λ _ f. absurd (both-ways _ f (x .reads));
-                write-figure = λ _ f. absurd (both-ways _ f (x .reads));
+                write-rank = λ _ f. absurd (both-ways _ f (x .reads));
+                write-value = λ _ f. absurd (both-ways _ f (x .reads));
               })
               (λ i _. line-later q R start w v₄ up₄ (g .core) i (line s i) (g .lines i));
           at-work = put-each (λ i o. AtWork (s .start) (s .writer .operation) ds i o) (w .ops) j o₄
@@ -131,7 +132,7 @@ module _ {F : Type 0} (q : Rule) (R : ℕ) (law : Lawful q) (start : F) (w : Wor
                 (λ c l. record { settled = omega (arith, ap (λ y. y .stage) here); aims = sym (ap (λ y. y .aim) here); true-figure = true-later q R start w v₄ up₄ (x .true-figure); to-low = l });
           };
           begun = put-each (λ i o. 1 ≤ o .stage → (1 ≤ (w .ops i) .stage) ⊎ ((o .begun ≡ length h) × (_≡_ {A = Reply F} Reply.Done (Reply.Started i)))) (w .ops) j o₄ (λ _. inl (omega (arith, x .stage-is))) (λ i _ l. inl l);
-          ended = put-each (λ i o. 3 ≤ o .stage → (3 ≤ (w .ops i) .stage) ⊎ ((o .ended ≡ length h) × Finishes (delivery place taken goes) i (record { stamp = o .aim; figure = w .fig (o .aim) }))) (w .ops) j o₄ (λ l. absurd (omega arith)) (λ i _ l. inl l);
+          ended = put-each (λ i o. 3 ≤ o .stage → (3 ≤ (w .ops i) .stage) ⊎ ((o .ended ≡ length h) × Finishes (delivery place taken goes) i (w .value (o .aim)))) (w .ops) j o₄ (λ l. absurd (omega arith)) (λ i _ l. inl l);
         });
       }
 
@@ -163,9 +164,9 @@ module _ {F : Type 0} (q : Rule) (R : ℕ) (law : Lawful q) (start : F) (w : Wor
     second-ends : q .round (bits (d .replies)) ≡ true → K (read-finishing s r d 4)
     second-ends b =
         let st = x .stage-is in
-        let hold = held-from q law (bits (d .replies)) (w .at) (d .«best_stamp») (law .holds _ b) (x .placed) in
-        let new = good-ended q law w (g .core) (d .operation) (d .«best_stamp») st (x .aims) hold in
-        read-ends q R law start w s h g (d .operation) r (x .owner-is) (reader-freed d) refl (d .«best_stamp») (omega arith) (omega arith) (λ _. x .aims) new (best d) refl (x .true-figure .is) refl place taken 4
+        let hold = held-from q law (bits (d .replies)) (w .at) (rank (d .«best_stamp»)) (law .holds _ b) (x .placed) in
+        let new = good-ended q law w (g .core) (d .operation) (rank (d .«best_stamp»)) st (x .aims) hold in
+        read-ends q R law start w s h g (d .operation) r (x .owner-is) (reader-freed d) refl (rank (d .«best_stamp»)) (omega arith) (omega arith) (λ _. x .aims) new (best d) refl (x .true-figure .is) refl place taken 4
 
     after-ack : K (after-last q s r d 4)
     after-ack =

@@ -12,6 +12,7 @@ use Rattle.quorum.specs.Laws.{Lawful}
 use Rattle.model.specs.declared.messages.Message.{Message}
 use Rattle.model.specs.declared.calls.Call.{Call}
 use Rattle.model.specs.declared.answers.Reply.{Reply}
+use Rattle.model.specs.Stamps.{rank}
 use Rattle.model.specs.State.{State, Held, unused}
 use Rattle.model.specs.History.{Event, History, Grows}
 use Rattle.model.specs.Claims.{At, In, Once, Before, Finishes, Row, Finished, Belongs, Precedes, Sent-put, Writes, Reads, Shows, Plays, Finished-with}
@@ -56,8 +57,8 @@ module _ {F : Type 0} (q : Rule) (R : ℕ) (law : Lawful q) (start : F) (w : Wor
   abbrev point : ℕ → ℕ
   point j = max ((op j) .begun) (w .since ((op j) .aim))
 
-  abbrev rank-of : ℕ → ℕ
-  rank-of j = (op j) .aim + (op j) .aim + late ((op j) .reading)
+  abbrev key : ℕ → ℕ
+  key j = (op j) .aim + (op j) .aim + late ((op j) .reading)
 
   abbrev answers : ℕ → ℕ → Bool
   answers t i = leb 3 ((op i) .stage) && ((op i) .reading && eqb ((op i) .aim) t)
@@ -66,7 +67,7 @@ module _ {F : Type 0} (q : Rule) (R : ℕ) (law : Lawful q) (start : F) (w : Wor
   keep j = leb 3 ((op j) .stage) || (leb 1 ((op j) .stage) && (not ((op j) .reading) && some (answers ((op j) .aim)) (w .count)))
 
   row : List ℕ
-  row = arrange point rank-of keep (w .count)
+  row = arrange point key keep (w .count)
 
   -- An operation of the row.
   record Kept (j : ℕ) : Type 0 where
@@ -109,11 +110,11 @@ module _ {F : Type 0} (q : Rule) (R : ℕ) (law : Lawful q) (start : F) (w : Wor
 
   in-row : (j : ℕ) → In j row → Kept j
   unfolding row
-  in-row j i = kept j (arranged point rank-of keep (w .count) j i .2)
+  in-row j i = kept j (arranged point key keep (w .count) j i .2)
 
   to-row : (j : ℕ) → 1 ≤ (op j) .stage → keep j ≡ true → In j row
   unfolding row
-  to-row j b e = arranges point rank-of keep (w .count) j (g .core .op j .named b) (g .core .op j .counted b) e
+  to-row j b e = arranges point key keep (w .count) j (g .core .op j .named b) (g .core .op j .counted b) e
 
   -- A write's point is when its stamp came to be held.
   write-point : (j : ℕ) → Kept j → (op j) .reading ≡ false → (op j) .begun ≤ w .since ((op j) .aim)
@@ -127,7 +128,7 @@ module _ {F : Type 0} (q : Rule) (R : ℕ) (law : Lawful q) (start : F) (w : Wor
   late-false : (j : ℕ) → (op j) .reading ≡ false → late ((op j) .reading) ≡ 0
   late-false j e = ap late e
 
-  module _ (x y : ℕ) (kx : Kept x) (ky : Kept y) (n : x ≡ y → ⊥) (le : Le point rank-of x y) where
+  module _ (x y : ℕ) (kx : Kept x) (ky : Kept y) (n : x ≡ y → ⊥) (le : Le point key x y) where
     aims-differ : (op x) .reading ≡ false → (op y) .reading ≡ false → (op x) .aim ≡ (op y) .aim → ⊥
     aims-differ a b e = n (sym (g .core .op x .write-own (kx .settled) a) ∙ ap (w .wrote) e ∙ g .core .op y .write-own (ky .settled) b)
 
@@ -157,14 +158,14 @@ module _ {F : Type 0} (q : Rule) (R : ℕ) (law : Lawful q) (start : F) (w : Wor
 
   once : Once row
   unfolding row
-  once = once-arrange point rank-of keep (w .count)
+  once = once-arrange point key keep (w .count)
 
-  pairs-le : Pairwise (Le point rank-of) row
+  pairs-le : Pairwise (Le point key) row
   unfolding row
-  pairs-le = le-arrange point rank-of keep (w .count)
+  pairs-le = le-arrange point key keep (w .count)
 
   pairs : Pairwise (Fits reads-of aim-of) row
-  pairs = pairwise-weaker (Le point rank-of) (Fits reads-of aim-of) row once (λ x y i j n l. fits x y (in-row x i) (in-row y j) n l) pairs-le
+  pairs = pairwise-weaker (Le point key) (Fits reads-of aim-of) row once (λ x y i j n l. fits x y (in-row x i) (in-row y j) n l) pairs-le
 
   -- A read showed a write of the row, or the start.
   source : (n : ℕ) → In n row → (op n) .reading ≡ true → (0 ≡ (op n) .aim) ⊎ Source reads-of aim-of n row
@@ -176,7 +177,7 @@ module _ {F : Type 0} (q : Rule) (R : ℕ) (law : Lawful q) (start : F) (w : Wor
           | inr f ↦ absurd (both-ways ((op n) .reading) (f .1) r)
           | inl l ↦
               let a = w .wrote ((op n) .aim) in
-              let o = g .core .source ((op n) .aim) (omega arith) (g .core .op n .aim-low (k .settled)) in
+              let o = g .core .source ((op n) .aim) (g .core .op n .aim-written (k .settled) .by-one (omega arith)) in
               let b : 1 ≤ (op a) .stage = omega (arith, o .settled) in
               let m = to-row a b (keep-seen a n b (o .writing) l r (sym (o .aims))) in
               inr (a, m, o .writing, o .aims)
@@ -195,22 +196,24 @@ module _ {F : Type 0} (q : Rule) (R : ℕ) (law : Lawful q) (start : F) (w : Wor
   answers-at : (m : ℕ) (e : Event F) (r : Reply F) → At h m e → e .reply ≡ r → Answers w m (e .call) (e .sent) r
   answers-at m e r a d = subst (Answers w m (e .call) (e .sent)) d (g .told m e a .answers)
 
-  ends-at : (m : ℕ) (e : Event F) (n : ℕ) (x : Held F) → At h m e → Finishes e n x → Ends w m n (x .stamp) (x .figure)
+  ends-at : (m : ℕ) (e : Event F) (n : ℕ) (x : Held F) → At h m e → Finishes e n x → Ends w m n x
   ends-at m e n x a f = answers-at m e (Reply.Finished n (x .stamp) (x .figure) (f .1 .0) (f .1 .1)) a (f .1 .2)
 
   begins-at : (m : ℕ) (e : Event F) (n : ℕ) → At h m e → e .reply ≡ Reply.Started n → Begins w m n (e .call) (e .sent)
   begins-at m e n a d = answers-at m e (Reply.Started n) a d
 
-  puts-aim : (n : ℕ) (a : Message F) → Sent-put h n a → a .stamp ≡ (op n) .aim
+  puts-aim : (n : ℕ) (a : Message F) → Sent-put h n a → (rank (a .stamp) ≡ (op n) .aim) × (a .stamp ≡ (shown w n) .stamp)
   puts-aim n a p =
       let sent = p .0 in
       let says = all-in (λ y. Says q R w (y .kind) y) (sent .1 .sent) a (g .told (sent .0) (sent .1) (sent .2) .sent-says) (sent .3) in
-      subst (λ k. Says q R w k a) (p .1) says .aims ∙ ap (λ i. (op i) .aim) (p .2)
+      let store = subst (λ k. Says q R w k a) (p .1) says in
+      let aims = store .aims ∙ ap (λ i. (op i) .aim) (p .2) in
+      (aims, ap (λ y. y .stamp) (store .true-figure .is ∙ ap (w .value) aims))
 
   write-shown : (n m : ℕ) (e : Event F) → At h m e → e .reply ≡ Reply.Started n → (op n) .reading ≡ false → (c : Call F) → e .call ≡ c → Opens w n c (e .sent) → Writes h n (shown w n)
   write-shown n m e a d r (Call.Write f) i o =
       let p = o .puts in
-      (m, e, a, i ∙ ap (λ y. Call.Write y) (sym (o .figure-is)), d, ((p .0, ((m, e, a, p .1), p .2, p .3)), puts-aim n))
+      (m, e, a, i ∙ ap (λ y. Call.Write y) (sym (o .figure-is)), d, ((p .0, ((m, e, a, p .1), p .2, p .3)), λ b i. puts-aim n b i .1))
   write-shown n m e a d r (Call.Read k kind) i o = absurd (both-ways ((op n) .reading) r (o .reads))
   write-shown n m e a d r (Call.Deliver p) i o = absurd o
   write-shown n m e a d r (Call.Drop p) i o = absurd o
@@ -238,22 +241,22 @@ module _ {F : Type 0} (q : Rule) (R : ℕ) (law : Lawful q) (start : F) (w : Wor
 
   -- And conversely.
 
-  write-is : (n : ℕ) (x : Held F) → Writes h n x → (1 ≤ (op n) .stage) × ((op n) .reading ≡ false) × (x .stamp ≡ (op n) .aim)
+  write-is : (n : ℕ) (x : Held F) → Writes h n x → (1 ≤ (op n) .stage) × ((op n) .reading ≡ false) × (rank (x .stamp) ≡ (op n) .aim)
   write-is n x v =
       let b = begins-at (v .0) (v .1) n (v .2) (v .4) in
       let o = subst (λ c. Opens w n c (v .1 .sent)) (v .3) (b .opens) in
       let p = v .5 .0 in
-      (b .stage-is, o .writes, sym (v .5 .1 (p .0) (p .1)) ∙ puts-aim n (p .0) (p .1))
+      (b .stage-is, o .writes, ap rank (sym (v .5 .1 (p .0) (p .1))) ∙ puts-aim n (p .0) (p .1) .0)
 
   read-is : (n : ℕ) → Reads h n → (op n) .reading ≡ true
   read-is n v = let b = begins-at (v .0) (v .1) n (v .4) (v .6) in subst (λ c. Opens w n c (v .1 .sent)) (v .5) (b .opens) .reads
 
-  finished-is : (n : ℕ) (x : Held F) → Finished-with h n x → Ends w ((op n) .ended) n (x .stamp) (x .figure)
-  finished-is n x f = let y = ends-at (f .0) (f .1) n x (f .2) (f .3) in record { stage-is = y .stage-is; ended-is = refl; aim-is = y .aim-is; figure-is = y .figure-is }
+  finished-is : (n : ℕ) (x : Held F) → Finished-with h n x → Ends w ((op n) .ended) n x
+  finished-is n x f = let y = ends-at (f .0) (f .1) n x (f .2) (f .3) in record { stage-is = y .stage-is; ended-is = refl; aim-is = y .aim-is; value-is = y .value-is }
 
   plays : Plays h (unused start) row
-  plays = subst (λ f. Plays h (record { stamp = 0; figure = f }) row) (g .first-fig)
-      (row-plays reads-of aim-of h (w .fig) 0 row ready
+  plays = subst (λ y. Plays h y row) (g .first-value)
+      (row-plays reads-of aim-of h (w .value) 0 row ready
       (λ n i r. writes n (omega (arith, in-row n i .settled)) r)
       (λ n i r. elim (in-row n i .why) [ inl l ↦ shows n l r | inr f ↦ absurd (both-ways ((op n) .reading) (f .1) r) ]))
 
@@ -266,7 +269,7 @@ module _ {F : Type 0} (q : Rule) (R : ℕ) (law : Lawful q) (start : F) (w : Wor
             let j = r .2 in
             inr (
               (λ f. let y = finished-is n (f .0) (f .1) in omega (arith, y .stage-is, r .0)),
-              (shown w n, writes n (omega (arith, k .settled)) (r .1), (j .0, subst (λ t. Shows h (j .0) (record { stamp = t; figure = w .fig t })) (j .3) (shows (j .0) (j .1) (j .2)))),
+              (shown w n, writes n (omega (arith, k .settled)) (r .1), (j .0, subst (λ t. Shows h (j .0) (w .value t)) (j .3) (shows (j .0) (j .1) (j .2)))),
             )
       ]
 
@@ -289,7 +292,7 @@ module _ {F : Type 0} (q : Rule) (R : ℕ) (law : Lawful q) (start : F) (w : Wor
       let o = g .core .op i .kept-since (x .stage-is) in
       elim (either-way row i j (λ d. omega (arith, x .ended-is, y .begun-is, ap (λ z. (op z) .begun) d)) p r) [
         | inl c ↦ c
-        | inr c ↦ let n = at-before (Le point rank-of) row j i pairs-le c in absurd (omega (arith, n .points, x .ended-is, y .begun-is))
+        | inr c ↦ let n = at-before (Le point key) row j i pairs-le c in absurd (omega (arith, n .points, x .ended-is, y .begun-is))
       ]
 
   pub in-a-row : Row start h

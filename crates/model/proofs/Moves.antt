@@ -8,15 +8,16 @@ use Rattle.std.proofs.shelf.Tests.{cond-both, cond-true, cond-false, cases-eq, 
 use Rattle.quorum.specs.Sets.{Rule}
 use Rattle.quorum.specs.Laws.{Lawful}
 use Rattle.model.specs.declared.parties.Party.{Party}
-use Rattle.model.proofs.World.{put-at, put-same, put-other, put-each, held, held-up, held-low, Op, World, Onward, onward-same, Later, OpGood, Source, Core, op-later}
+use Rattle.model.specs.State.{Held}
+use Rattle.model.proofs.World.{put-at, put-same, put-other, put-each, held, held-up, held-low, Op, World, Onward, onward-same, Later, Written, written-later, OpGood, Source, Core, op-later}
 
 -- Another call, and no more.
 abbrev pub ticked : {F : Type 0} → World F → World F
-ticked w = record { now = suc (w .now); last = w .last; count = w .count; at = w .at; ops = w .ops; fig = w .fig; wrote = w .wrote; since = w .since }
+ticked w = record { now = suc (w .now); last = w .last; count = w .count; at = w .at; ops = w .ops; value = w .value; wrote = w .wrote; since = w .since }
 
 -- Another call, with operation k now o.
 abbrev pub changed : {F : Type 0} → World F → ℕ → Op → World F
-changed w k o = record { now = suc (w .now); last = w .last; count = w .count; at = w .at; ops = put-at (w .ops) k o; fig = w .fig; wrote = w .wrote; since = w .since }
+changed w k o = record { now = suc (w .now); last = w .last; count = w .count; at = w .at; ops = put-at (w .ops) k o; value = w .value; wrote = w .wrote; since = w .since }
 
 -- A read's stamp is settled.
 abbrev pub settled : Op → ℕ → Op
@@ -56,7 +57,7 @@ raised q w bt = record {
   count = w .count;
   at = bt;
   ops = w .ops;
-  fig = w .fig;
+  value = w .value;
   wrote = w .wrote;
   since = λ t. cond (held q (w .at) t) (w .since t) (w .now);
 }
@@ -65,8 +66,8 @@ raised q w bt = record {
 abbrev pub read-op : {F : Type 0} → World F → Party → Op
 read-op w owner = record { stage = 1; begun = w .now; ended = 0; aim = 0; owner = owner; reading = true; snap = w .at }
 
-abbrev pub write-op : {F : Type 0} → World F → Party → Op
-write-op w owner = record { stage = 2; begun = w .now; ended = 0; aim = suc (w .last); owner = owner; reading = false; snap = w .at }
+abbrev pub write-op : {F : Type 0} → World F → Party → ℕ → Op
+write-op w owner a = record { stage = 2; begun = w .now; ended = 0; aim = a; owner = owner; reading = false; snap = w .at }
 
 abbrev pub read-begun : {F : Type 0} → World F → Party → World F
 read-begun w owner = record {
@@ -75,29 +76,31 @@ read-begun w owner = record {
   count = suc (w .count);
   at = w .at;
   ops = put-at (w .ops) (suc (w .count)) (read-op w owner);
-  fig = w .fig;
+  value = w .value;
   wrote = w .wrote;
   since = w .since;
 }
 
-abbrev pub write-begun : {F : Type 0} → World F → Party → F → World F
-write-begun w owner f = record {
+-- A write of x, whose stamp is a.
+abbrev pub write-begun : {F : Type 0} → World F → Party → ℕ → Held F → World F
+write-begun w owner a x = record {
   now = suc (w .now);
-  last = suc (w .last);
+  last = a;
   count = suc (w .count);
   at = w .at;
-  ops = put-at (w .ops) (suc (w .count)) (write-op w owner);
-  fig = put-at (w .fig) (suc (w .last)) f;
-  wrote = put-at (w .wrote) (suc (w .last)) (suc (w .count));
+  ops = put-at (w .ops) (suc (w .count)) (write-op w owner a);
+  value = put-at (w .value) a x;
+  wrote = put-at (w .wrote) a (suc (w .count));
   since = w .since;
 }
 
 module _ (q : Rule) {F : Type 0} (law : Lawful q) where
-  pub source-later : (w v : World F) → Later q w v → (t : ℕ) → t ≤ w .last → Source q w t (w .ops (w .wrote t)) → Source q v t (v .ops (v .wrote t))
-  source-later w v up t l s =
-      rw (up .same-wrote t l)
+  pub source-later : (w v : World F) → Later q w v → (t : ℕ) → Source q w t (w .ops (w .wrote t)) → Source q v t (v .ops (v .wrote t))
+  source-later w v up t s =
+      rw (up .same-wrote t (s .low))
       (let u = up .ops-up (w .wrote t) in
       record {
+        low = omega (arith, s .low, up .last-up);
         settled = omega (arith, s .settled, u .stage-up);
         writing = u .same-reading (omega (arith, s .settled)) ∙ s .writing;
         aims = u .same-aim (s .settled) ∙ s .aims;
@@ -110,7 +113,7 @@ module _ (q : Rule) {F : Type 0} (law : Lawful q) where
     count-up = omega arith;
     at-up = λ c. omega arith;
     ops-up = λ j. onward-same (w .ops j);
-    same-fig = λ t _. refl;
+    same-value = λ t _. refl;
     same-wrote = λ t _. refl;
     since-old = λ t _. refl;
     since-new = λ t n h. absurd (both-ways (held q (w .at) t) n h);
@@ -122,7 +125,7 @@ module _ (q : Rule) {F : Type 0} (law : Lawful q) where
     paced = g .paced;
     past = λ t h. omega (arith, g .past t h);
     op = λ j. op-later q law w (ticked w) (later-ticked w) j (w .ops j) (g .op j);
-    source = λ t a b. source-later w (ticked w) (later-ticked w) t b (g .source t a b);
+    source = λ t b. source-later w (ticked w) (later-ticked w) t (g .source t b);
   }
 
   pub later-changed : (w : World F) (k : ℕ) (o : Op) → Onward (w .ops k) o → Later q w (changed w k o)
@@ -132,7 +135,7 @@ module _ (q : Rule) {F : Type 0} (law : Lawful q) where
     count-up = omega arith;
     at-up = λ c. omega arith;
     ops-up = put-each (λ j p. Onward (w .ops j) p) (w .ops) k o u (λ j _. onward-same (w .ops j));
-    same-fig = λ t _. refl;
+    same-value = λ t _. refl;
     same-wrote = λ t _. refl;
     since-old = λ t _. refl;
     since-new = λ t n h. absurd (both-ways (held q (w .at) t) n h);
@@ -144,11 +147,11 @@ module _ (q : Rule) {F : Type 0} (law : Lawful q) where
     paced = g .paced;
     past = λ t h. omega (arith, g .past t h);
     op = put-each (λ j p. OpGood q (changed w k o) j p) (w .ops) k o n (λ j _. op-later q law w (changed w k o) (later-changed w k o u) j (w .ops j) (g .op j));
-    source = λ t a b. source-later w (changed w k o) (later-changed w k o u) t b (g .source t a b);
+    source = λ t b. source-later w (changed w k o) (later-changed w k o u) t (g .source t b);
   }
 
   module _ (w : World F) (g : Core q w) (k s : ℕ) where
-    pub good-settled : (w .ops k) .stage ≡ 1 → (w .ops k) .reading ≡ true → s ≤ w .last
+    pub good-settled : (w .ops k) .stage ≡ 1 → (w .ops k) .reading ≡ true → Written w s
         → ((t : ℕ) → s < t → held q ((w .ops k) .snap) t ≡ false) → OpGood q (changed w k (settled (w .ops k) s)) k (settled (w .ops k) s)
     good-settled e r l n =
         let o = g .op k in
@@ -160,7 +163,7 @@ module _ (q : Rule) {F : Type 0} (law : Lawful q) where
           grown = λ _. o .grown b;
           fresh-since = λ _. o .fresh-since b;
           write-settled = λ _ _. omega arith;
-          aim-low = λ _. l;
+          aim-written = λ _. record { low = l .low; by-one = l .by-one };
           read-aim = λ _ _. n;
           write-aim = λ _ f. absurd (both-ways ((w .ops k) .reading) f r);
           write-own = λ _ f. absurd (both-ways ((w .ops k) .reading) f r);
@@ -171,7 +174,7 @@ module _ (q : Rule) {F : Type 0} (law : Lawful q) where
         }
 
     -- A read finishes that was not settled.
-    pub good-quick : (w .ops k) .stage ≡ 1 → (w .ops k) .reading ≡ true → s ≤ w .last
+    pub good-quick : (w .ops k) .stage ≡ 1 → (w .ops k) .reading ≡ true → Written w s
         → ((t : ℕ) → s < t → held q ((w .ops k) .snap) t ≡ false) → held q (w .at) s ≡ true
         → OpGood q (changed w k (ended-op (w .ops k) s (w .now))) k (ended-op (w .ops k) s (w .now))
     good-quick e r l n h =
@@ -184,7 +187,7 @@ module _ (q : Rule) {F : Type 0} (law : Lawful q) where
           grown = λ _. o .grown b;
           fresh-since = λ _. o .fresh-since b;
           write-settled = λ _ _. omega arith;
-          aim-low = λ _. l;
+          aim-written = λ _. record { low = l .low; by-one = l .by-one };
           read-aim = λ _ _. n;
           write-aim = λ _ f. absurd (both-ways ((w .ops k) .reading) f r);
           write-own = λ _ f. absurd (both-ways ((w .ops k) .reading) f r);
@@ -208,7 +211,7 @@ module _ (q : Rule) {F : Type 0} (law : Lawful q) where
           grown = λ _. o .grown b;
           fresh-since = λ _. o .fresh-since b;
           write-settled = λ _ _. omega arith;
-          aim-low = λ _. omega (arith, o .aim-low c);
+          aim-written = λ _. let x = o .aim-written c in rw a (record { low = x .low; by-one = x .by-one });
           read-aim = λ _ r t l. o .read-aim c r t (omega arith);
           write-aim = λ _ f t l. o .write-aim c f t (omega arith);
           write-own = λ _ f. ap (w .wrote) a ∙ o .write-own c f;
@@ -226,7 +229,7 @@ module _ (q : Rule) {F : Type 0} (law : Lawful q) where
       count-up = omega arith;
       at-up = up;
       ops-up = λ j. onward-same (w .ops j);
-      same-fig = λ t _. refl;
+      same-value = λ t _. refl;
       same-wrote = λ t _. refl;
       since-old = λ t h. cond-true (held q (w .at) t) (w .since t) (w .now) h;
       since-new = λ t n h. omega (arith, cond-false (held q (w .at) t) (w .since t) (w .now) n);
@@ -242,7 +245,7 @@ module _ (q : Rule) {F : Type 0} (law : Lawful q) where
       ];
       past = λ t h. omega (arith, past t);
       op = λ j. op-later q law w (raised q w bt) later-raised j (w .ops j) (g .op j);
-      source = λ t a b. source-later w (raised q w bt) later-raised t b (g .source t a b);
+      source = λ t b. source-later w (raised q w bt) later-raised t (g .source t b);
     }
       where
         past : (t : ℕ) → cond (held q (w .at) t) (w .since t) (w .now) ≤ w .now
@@ -273,7 +276,7 @@ module _ (q : Rule) {F : Type 0} (law : Lawful q) where
       count-up = omega arith;
       at-up = λ c. omega arith;
       ops-up = put-each (λ j p. Onward (w .ops j) p) (w .ops) (suc (w .count)) (read-op w owner) (onward-born (read-op w owner)) (λ j _. onward-same (w .ops j));
-      same-fig = λ t _. refl;
+      same-value = λ t _. refl;
       same-wrote = λ t _. refl;
       since-old = λ t _. refl;
       since-new = λ t n h. absurd (both-ways (held q (w .at) t) n h);
@@ -286,7 +289,7 @@ module _ (q : Rule) {F : Type 0} (law : Lawful q) where
       past = λ t h. omega (arith, g .past t h);
       op = put-each (λ j p. OpGood q (read-begun w owner) j p) (w .ops) (suc (w .count)) (read-op w owner) new
           (λ j _. op-later q law w (read-begun w owner) (later-read owner) j (w .ops j) (g .op j));
-      source = λ t a b. source-later w (read-begun w owner) (later-read owner) t b (g .source t a b);
+      source = λ t b. source-later w (read-begun w owner) (later-read owner) t (g .source t b);
     }
       where
         new : OpGood q (read-begun w owner) (suc (w .count)) (read-op w owner)
@@ -297,7 +300,7 @@ module _ (q : Rule) {F : Type 0} (law : Lawful q) where
           grown = λ _ c. omega arith;
           fresh-since = λ _ t n h. absurd (both-ways (held q (w .at) t) n h);
           write-settled = λ _ f. absurd (both-ways true f refl);
-          aim-low = λ l. absurd (omega arith);
+          aim-written = λ l. absurd (omega arith);
           read-aim = λ l. absurd (omega arith);
           write-aim = λ l. absurd (omega arith);
           write-own = λ l. absurd (omega arith);
@@ -307,39 +310,53 @@ module _ (q : Rule) {F : Type 0} (law : Lawful q) where
           ended-after = λ l. absurd (omega arith);
         }
 
-    pub later-write : (owner : Party) (f : F) → Later q w (write-begun w owner f)
-    later-write owner f = record {
+  -- A stamp above the last.
+  module _ (w : World F) (g : Core q w) (owner : Party) (a : ℕ) (above : w .last < a) (x : Held F) where
+    abbrev o : Op
+    o = write-op w owner a
+
+    abbrev v : World F
+    v = write-begun w owner a x
+
+    pub later-write : Later q w v
+    later-write = record {
       now-up = omega arith;
       last-up = omega arith;
       count-up = omega arith;
       at-up = λ c. omega arith;
-      ops-up = put-each (λ j p. Onward (w .ops j) p) (w .ops) (suc (w .count)) (write-op w owner) (onward-born (write-op w owner)) (λ j _. onward-same (w .ops j));
-      same-fig = λ t l. put-other (w .fig) (suc (w .last)) f t (λ e. omega arith);
-      same-wrote = λ t l. put-other (w .wrote) (suc (w .last)) (suc (w .count)) t (λ e. omega arith);
+      ops-up = put-each (λ j p. Onward (w .ops j) p) (w .ops) (suc (w .count)) o (onward-born w g o) (λ j _. onward-same (w .ops j));
+      same-value = λ t l. put-other (w .value) a x t (λ e. omega arith);
+      same-wrote = λ t l. put-other (w .wrote) a (suc (w .count)) t (λ e. omega arith);
       since-old = λ t _. refl;
       since-new = λ t n h. absurd (both-ways (held q (w .at) t) n h);
     }
 
-    pub core-write : (owner : Party) (f : F) → Core q (write-begun w owner f)
-    core-write owner f = record {
+    wrote-new : v .wrote a ≡ suc (w .count)
+    wrote-new = put-same (w .wrote) a (suc (w .count))
+
+    -- An older stamp was written by an older operation.
+    old-source : (t : ℕ) → (t ≡ a → ⊥) → 0 < v .wrote t → Source q v t (v .ops (v .wrote t))
+    old-source t n p = source-later w v later-write t (g .source t (omega (arith, put-other (w .wrote) a (suc (w .count)) t n)))
+
+    pub core-write : Core q v
+    core-write = record {
       low = λ c. omega (arith, g .low c);
       paced = g .paced;
       past = λ t h. omega (arith, g .past t h);
-      op = put-each (λ j p. OpGood q (write-begun w owner f) j p) (w .ops) (suc (w .count)) (write-op w owner) new
-          (λ j _. op-later q law w (write-begun w owner f) (later-write owner f) j (w .ops j) (g .op j));
-      source = λ t a b. elim (cases-eq t (suc (w .last))) [
-        | inl e ↦ rw (e, put-same (w .wrote) (suc (w .last)) (suc (w .count)), put-same (w .ops) (suc (w .count)) (write-op w owner)) (record { settled = omega arith; writing = refl; aims = refl })
-        | inr n ↦ source-later w (write-begun w owner f) (later-write owner f) t (omega arith) (g .source t a (omega arith))
+      op = put-each (λ j p. OpGood q v j p) (w .ops) (suc (w .count)) o new (λ j _. op-later q law w v later-write j (w .ops j) (g .op j));
+      source = λ t p. elim (cases-eq t a) [
+        | inl e ↦ rw (e, wrote-new, put-same (w .ops) (suc (w .count)) o) (record { low = omega arith; settled = omega arith; writing = refl; aims = refl })
+        | inr n ↦ old-source t n p
       ];
     }
       where
-        unheld : (t : ℕ) → suc (w .last) ≤ t → held q (w .at) t ≡ false
+        unheld : (t : ℕ) → a ≤ t → held q (w .at) t ≡ false
         unheld t l = elim (cases-bool (held q (w .at) t)) [
           | inl h ↦ let m = held-low q law (w .at) t (w .last) (g .low) h in absurd (omega arith)
           | inr h ↦ h
         ]
 
-        new : OpGood q (write-begun w owner f) (suc (w .count)) (write-op w owner)
+        new : OpGood q v (suc (w .count)) o
         new = record {
           named = λ _. omega arith;
           counted = λ _. omega arith;
@@ -347,10 +364,10 @@ module _ (q : Rule) {F : Type 0} (law : Lawful q) where
           grown = λ _ c. omega arith;
           fresh-since = λ _ t n h. absurd (both-ways (held q (w .at) t) n h);
           write-settled = λ _ f. omega arith;
-          aim-low = λ _. omega arith;
+          aim-written = λ _. record { low = omega arith; by-one = λ _. omega (arith, wrote-new) };
           read-aim = λ _ r. absurd (both-ways false refl r);
           write-aim = λ _ _. unheld;
-          write-own = λ _ _. put-same (w .wrote) (suc (w .last)) (suc (w .count));
+          write-own = λ _ _. wrote-new;
           write-positive = λ _ _. omega arith;
           kept = λ l. absurd (omega arith);
           kept-since = λ l. absurd (omega arith);

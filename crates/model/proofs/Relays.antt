@@ -16,6 +16,7 @@ use Rattle.model.specs.declared.reader.Reader.{Reader}
 use Rattle.model.specs.declared.marks.RelayMark.{RelayMark}
 use Rattle.model.specs.declared.messages.Message.{Message}
 use Rattle.model.specs.declared.answers.Reply.{Reply}
+use Rattle.model.specs.Stamps.{rank}
 use Rattle.model.specs.State.{State, Held, index, new-mark, reader, line, mark-place, held, with-held}
 use Rattle.model.specs.Records.{took, best, lowered, reader-freed, marked, mark-replied}
 use Rattle.model.specs.Deliveries.{Effect, carried, answer, in-relay, counts, read-finishing, after-last, on-reply-at, on-reply, on-relay-at, on-relay}
@@ -129,10 +130,10 @@ module _ {F : Type 0} (q : Rule) (R : ℕ) (law : Lawful q) (start : F) (w : Wor
 
   -- The reader.
   module _ (r : ℕ) (d : Reader F) (x : Relaying q w r d) (m : Message F) (y : Settling q w m) (same-op : d .operation ≡ m .operation) where
-    high-new : (t : ℕ) → m .stamp < t → world.held q ((w .ops (d .operation)) .snap) t ≡ false
+    high-new : (t : ℕ) → rank (m .stamp) < t → world.held q ((w .ops (d .operation)) .snap) t ≡ false
     high-new t l = rw same-op (y .high t l)
 
-    placed-more : (b : ℕ) → (d .replies ≡ 0 → ⊥) ⊎ (d .replies ≡ 0) → b ≤ m .stamp → ((d .replies ≡ 0 → ⊥) → b ≤ d .«best_stamp») → (k : ℕ) → bits (joined (d .replies) (index (m .sender))) k ≡ true → b ≤ w .at k
+    placed-more : (b : ℕ) → (d .replies ≡ 0 → ⊥) ⊎ (d .replies ≡ 0) → b ≤ rank (m .stamp) → ((d .replies ≡ 0 → ⊥) → b ≤ rank (d .«best_stamp»)) → (k : ℕ) → bits (joined (d .replies) (index (m .sender))) k ≡ true → b ≤ w .at k
     placed-more b z l n k i = elim (joined-cases (d .replies) (index (m .sender)) k i) [
       | inl a ↦ rw a (omega (arith, y .grown))
       | inr o ↦ elim z [ inl p ↦ omega (arith, n p, x .placed k o) | inr p ↦ absurd (both-ways (bits 0 k) (none k) (rw p at o)) ]
@@ -141,20 +142,20 @@ module _ {F : Type 0} (q : Rule) (R : ℕ) (law : Lawful q) (start : F) (w : Wor
     lowers : Relaying q w r (lowered d (index (m .sender)) (carried m))
     unfolding lowered
     lowers =
-        cond-both (eqb (d .replies) 0 || ltb (m .stamp) (d .«best_stamp»)) _ _ (Relaying q w r)
+        cond-both (eqb (d .replies) 0 || ltb (rank (m .stamp)) (rank (d .«best_stamp»))) _ _ (Relaying q w r)
         (λ c. record {
           stage-is = x .stage-is;
           owner-is = x .owner-is;
           reads = x .reads;
           true-figure = y .true-figure;
           high = λ _. high-new;
-          placed = elim (or-cases (eqb (d .replies) 0) (ltb (m .stamp) (d .«best_stamp»)) c) [
-            | inl z ↦ placed-more (m .stamp) (inr (eqb-true (d .replies) 0 z)) (omega arith) (λ n. absurd (n (eqb-true (d .replies) 0 z)))
-            | inr l ↦ placed-more (m .stamp) (elim (cases-eq (d .replies) 0) [ inl z ↦ inr z | inr z ↦ inl z ]) (omega arith) (λ n. omega (arith, ltb-true (m .stamp) (d .«best_stamp») l))
+          placed = elim (or-cases (eqb (d .replies) 0) (ltb (rank (m .stamp)) (rank (d .«best_stamp»))) c) [
+            | inl z ↦ placed-more (rank (m .stamp)) (inr (eqb-true (d .replies) 0 z)) (omega arith) (λ n. absurd (n (eqb-true (d .replies) 0 z)))
+            | inr l ↦ placed-more (rank (m .stamp)) (elim (cases-eq (d .replies) 0) [ inl z ↦ inr z | inr z ↦ inl z ]) (omega arith) (λ n. omega (arith, ltb-true (rank (m .stamp)) (rank (d .«best_stamp»)) l))
           ];
         })
         (λ c.
-        let p = or-parts (eqb (d .replies) 0) (ltb (m .stamp) (d .«best_stamp»)) c in
+        let p = or-parts (eqb (d .replies) 0) (ltb (rank (m .stamp)) (rank (d .«best_stamp»))) c in
         let z = eqb-false (d .replies) 0 (p .0) in
         record {
           stage-is = x .stage-is;
@@ -162,7 +163,7 @@ module _ {F : Type 0} (q : Rule) (R : ℕ) (law : Lawful q) (start : F) (w : Wor
           reads = x .reads;
           true-figure = x .true-figure;
           high = λ _. x .high z;
-          placed = placed-more (d .«best_stamp») (inl z) (ltb-false (m .stamp) (d .«best_stamp») (p .1)) (λ _. omega arith);
+          placed = placed-more (rank (d .«best_stamp»)) (inl z) (ltb-false (rank (m .stamp)) (rank (d .«best_stamp»)) (p .1)) (λ _. omega arith);
         })
 
   module _ (r : ℕ) (d : Reader F) (x : Relaying q w r d) (e : in-relay (d .phase) ≡ true) (same-op : d .operation ≡ (reader s r) .operation) where
@@ -171,9 +172,9 @@ module _ {F : Type 0} (q : Rule) (R : ℕ) (law : Lawful q) (start : F) (w : Wor
         let st = x .stage-is in
         let i = round-some q law (bits (d .replies)) b in
         let n : d .replies ≡ 0 → ⊥ = λ z. both-ways (bits 0 (i .0)) (none (i .0)) (subst (λ a. bits a (i .0) ≡ true) z (i .1)) in
-        let hold = held-from q law (bits (d .replies)) (w .at) (d .«best_stamp») (law .holds _ b) (x .placed) in
-        let new = good-quick q law w (g .core) (d .operation) (d .«best_stamp») st (x .reads) (x .true-figure .low) (x .high n) hold in
-        read-ends q R law start w s h g (d .operation) r (x .owner-is) (reader-freed d) refl (d .«best_stamp») (omega arith) (omega arith) (λ l. absurd (omega arith)) new (best d) refl (x .true-figure .is) refl place taken 3
+        let hold = held-from q law (bits (d .replies)) (w .at) (rank (d .«best_stamp»)) (law .holds _ b) (x .placed) in
+        let new = good-quick q law w (g .core) (d .operation) (rank (d .«best_stamp»)) st (x .reads) (x .true-figure .written) (x .high n) hold in
+        read-ends q R law start w s h g (d .operation) r (x .owner-is) (reader-freed d) refl (rank (d .«best_stamp»)) (omega arith) (omega arith) (λ l. absurd (omega arith)) new (best d) refl (x .true-figure .is) refl place taken 3
 
     after-low : K (after-last q s r d 3)
     after-low =

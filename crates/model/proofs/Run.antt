@@ -1,5 +1,5 @@
 -- Every history keeps what is known.
-use mathlib.Core.Path.{_≡_, refl}
+use mathlib.Core.Path.{_≡_, refl, sym}
 use mathlib.Core.Bool.{true, false, not}
 use mathlib.Core.List.{List, [], _∷_, _++_}
 use Prim.Native.Nat.{ℕ, _*_, _/_, _<_}
@@ -18,15 +18,17 @@ use Rattle.model.specs.declared.messages.Message.{Message}
 use Rattle.model.specs.declared.calls.Call.{Call}
 use Rattle.model.specs.declared.answers.Reply.{Reply}
 use Rattle.model.specs.declared.answers.Refusal.{Refusal}
-use Rattle.model.specs.State.{State, message, halted, without-message}
+use Rattle.model.specs.Stamps.{rank}
+use Rattle.model.specs.State.{State, unused, message, halted, without-message}
 use Rattle.model.specs.Records.{reading, ended}
 use Rattle.model.specs.Deliveries.{on, received}
 use Rattle.model.specs.Steps.{Outcome, declined, counted, outcome, deliver, done, Tests, tests, first-of, refusal, overfull, settled, step}
 use Rattle.model.specs.History.{History, event}
 use Rattle.model.proofs.Sets.{none}
 use Rattle.model.proofs.Lists.{all-without}
+use Rattle.model.proofs.Ranks.{rank-start}
 use Rattle.model.proofs.World.{World}
-use Rattle.model.proofs.Good.{True, Says, InPhase, MarkGood, Good, Kept, Keeps}
+use Rattle.model.proofs.Good.{True, start-true, Says, InPhase, MarkGood, Good, Kept, Keeps}
 use Rattle.model.proofs.Steps.{posts, delivery, keeps-declined, keeps-dropped, keeps-duplicated, keeps-halt, kept-quiet, kept-query, kept-fan}
 use Rattle.model.proofs.Ends.{line-none}
 use lib.ListN.{length-replicate}
@@ -81,7 +83,7 @@ module _ {F : Type 0} (q : Rule) (R : ℕ) (law : Lawful q) (start : F) where
     pub taken-out : (p : ℕ) → Good q R start w (without-message s p) h
     taken-out p = record {
       core = g .core;
-      first-fig = g .first-fig;
+      first-value = g .first-value;
       start-is = g .start-is;
       now-is = g .now-is;
       count-is = g .count-is;
@@ -131,7 +133,7 @@ module _ {F : Type 0} (q : Rule) (R : ℕ) (law : Lawful q) (start : F) where
     count = 0;
     at = λ _. 0;
     ops = λ _. record { stage = 0; begun = 0; ended = 0; aim = 0; owner = Party.Writer; reading = false; snap = λ _. 0 };
-    fig = λ _. start;
+    value = λ _. unused start;
     wrote = λ _. 0;
     since = λ _. 0;
   }
@@ -150,7 +152,7 @@ module _ {F : Type 0} (q : Rule) (R : ℕ) (law : Lawful q) (start : F) where
         grown = λ a. absurd (omega arith);
         fresh-since = λ a. absurd (omega arith);
         write-settled = λ a. absurd (omega arith);
-        aim-low = λ a. absurd (omega arith);
+        aim-written = λ a. absurd (omega arith);
         read-aim = λ a. absurd (omega arith);
         write-aim = λ a. absurd (omega arith);
         write-own = λ a. absurd (omega arith);
@@ -159,15 +161,15 @@ module _ {F : Type 0} (q : Rule) (R : ℕ) (law : Lawful q) (start : F) where
         kept-since = λ a. absurd (omega arith);
         ended-after = λ a. absurd (omega arith);
       };
-      source = λ t a b. absurd (omega arith);
+      source = λ t p. absurd (omega arith);
     };
-    first-fig = refl;
+    first-value = refl;
     start-is = refl;
     now-is = refl;
     count-is = refl;
-    last-is = refl;
-    at-is = each-replicate (λ k (x : Replica F). _≡_ {A = ℕ} 0 (x .stamp)) (q .size) _ _ (λ k. refl) (λ k. refl);
-    figures = each-replicate (λ k (x : Replica F). True dawn (x .stamp) (x .figure)) (q .size) _ _ (λ k. record { low = omega arith; is = refl }) (λ k. record { low = omega arith; is = refl });
+    last-is = sym rank-start;
+    at-is = each-replicate (λ k (x : Replica F). _≡_ {A = ℕ} 0 (rank (x .stamp))) (q .size) _ _ (λ k. sym rank-start) (λ k. sym rank-start);
+    figures = each-replicate (λ k (x : Replica F). True dawn (x .stamp) (x .figure)) (q .size) _ _ (λ k. start-true dawn start refl (unused start) refl) (λ k. start-true dawn start refl (unused start) refl);
     replicas-are = length-replicate (q .size) _;
     messages = tt;
     readers = each-replicate (λ k (x : Reader F). InPhase q dawn k (x .phase) x) R _ _ (λ k. tt) (λ k. tt);

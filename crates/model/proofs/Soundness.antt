@@ -19,9 +19,8 @@ use Rattle.model.specs.declared.answers.Reply.{Reply}
 use Rattle.model.specs.declared.answers.Refusal.{Refusal}
 use Rattle.model.specs.State.{State, without, new-replica, new-writer}
 use Rattle.model.specs.Sound.{each, each-from, sets-within, messages-addressed, messages-booked, readers-placed, sound}
-use Rattle.model.specs.Records.{heard, lowered, marked}
-use Rattle.model.specs.Deliveries.{to-all, on-offer, on-put-ack, on-query, on-have, on-back-ack, on-reply, on-fan, on-relay, on, received}
 use Rattle.model.specs.Steps.{Outcome, declined, counted, write, read, deliver, dropped, duplicated, halt, done, tests, refusal, step}
+use Rattle.model.proofs.Opened.{opened}
 
 abbrev three : Rule
 three = count-rule 3 1
@@ -98,7 +97,7 @@ c3 = Party.Replica 3
 
 -- The first are sound, the second are not.
 sets : List Bool × List Bool
-unfolding each each-from sets-within messages-addressed messages-booked readers-placed sound
+unfolding opened
 sets = (
   readers-are (at-work 2 Phase.First 7 7) resting ∷ mark-is 7 ∷ [],
   readers-are (at-work 2 Phase.First 8 0) resting
@@ -114,7 +113,7 @@ sets-told = refl
 
 -- each kind with a line, a sender and a receiver that suit it
 messages : List Bool
-unfolding each each-from sets-within messages-addressed messages-booked readers-placed sound
+unfolding opened
 messages =
     message-is (message MessageKind.Put 1 writer c2)
     ∷ message-is (message MessageKind.PutAck 1 c2 writer)
@@ -135,7 +134,7 @@ messages-told = refl
 
 -- each with one thing wrong: a party that does not exist or does not suit, an operation outside the journal, a line or an owner of another kind
 faulty-messages : List Bool
-unfolding each each-from sets-within messages-addressed messages-booked readers-placed sound
+unfolding opened
 faulty-messages =
     message-is (message MessageKind.Put 1 writer c3)
     ∷ message-is (message MessageKind.Put 1 r0 c2)
@@ -161,7 +160,7 @@ faulty-messages-told = refl
 
 -- a reader may be in any of the three phases, with a read of its own
 placed-readers : List Bool
-unfolding each each-from sets-within messages-addressed messages-booked readers-placed sound
+unfolding opened
 placed-readers =
     readers-are resting resting
     ∷ readers-are (at-work 2 Phase.First 0 0) (at-work 3 Phase.Relay 0 0)
@@ -174,7 +173,7 @@ unfolding placed-readers
 placed-readers-told = refl
 
 misplaced-readers : List Bool
-unfolding each each-from sets-within messages-addressed messages-booked readers-placed sound
+unfolding opened
 misplaced-readers =
     readers-are (at-work 2 Phase.Idle 0 0) resting
     ∷ readers-are (at-work 0 Phase.First 0 0) resting
@@ -197,7 +196,7 @@ abbrev ahead-tables : State ℕ
 ahead-tables = tables (resting ∷ resting ∷ []) [] (record { kind = MessageKind.Put; operation = 1; sender = writer; receiver = c0; stamp = 1; figure = 6 } ∷ [])
 
 made : State ℕ → Call ℕ → Outcome ℕ
-unfolding bits joined count without each each-from sets-within messages-addressed messages-booked readers-placed sound heard lowered marked to-all on-offer on-put-ack on-query on-have on-back-ack on-reply on-fan on-relay on received counted write read deliver dropped duplicated halt done tests refusal step
+unfolding opened
 made s c = step three s c
 
 unsound-read : made unsound-tables (Call.Read 7 ReadKind.Quick) ≡ declined unsound-tables Refusal.Unsound

@@ -15,17 +15,16 @@ use Rattle.model.specs.declared.calls.Call.{Call}
 use Rattle.model.specs.declared.answers.Reply.{Reply}
 use Rattle.model.specs.State.{Held, without, fresh}
 use Rattle.model.specs.Sound.{each, each-from, sets-within, messages-addressed, messages-booked, readers-placed, sound}
-use Rattle.model.specs.Records.{heard, lowered, marked}
-use Rattle.model.specs.Deliveries.{to-all, on-offer, on-put-ack, on-query, on-have, on-back-ack, on-reply, on-fan, on-relay, on, received}
 use Rattle.model.specs.Steps.{counted, write, read, deliver, dropped, duplicated, halt, done, tests, refusal, step}
 use Rattle.model.specs.History.{Event, History, run}
 use Rattle.model.specs.Claims.{At, In, Finished, Writes, Shows, Sent-put, Stamped, Belongs, Precedes, Row}
+use Rattle.model.proofs.Opened.{opened}
 
 abbrev Figure : Type 0
 Figure = ℕ × ℕ
 
 h : History Figure
-unfolding bits joined count without fresh each each-from sets-within messages-addressed messages-booked readers-placed sound heard lowered marked to-all on-offer on-put-ack on-query on-have on-back-ack on-reply on-fan on-relay on received counted write read deliver dropped duplicated halt done tests refusal step run
+unfolding opened
 h = (run (count-rule 3 1) (fresh (count-rule 3 1) (0, 0) 2 1024 256) (
     Call.Write (1250, 480) ∷ Call.Deliver 0 ∷ Call.Read 0 ReadKind.Quick ∷ Call.Deliver 3 ∷ Call.Deliver 3 ∷ Call.Deliver 4 ∷ Call.Deliver 4
     ∷ Call.Deliver 4 ∷ Call.Deliver 4 ∷ Call.Deliver 5 ∷ Call.Deliver 5 ∷ Call.Write (1260, 490) ∷ [])) .history

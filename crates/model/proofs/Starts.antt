@@ -20,17 +20,19 @@ use Rattle.model.specs.declared.messages.Message.{Message}
 use Rattle.model.specs.declared.journal.Operation.{Operation}
 use Rattle.model.specs.declared.calls.Call.{Call}
 use Rattle.model.specs.declared.answers.Reply.{Reply}
-use Rattle.model.specs.State.{State, index, unused, new-reader, new-mark, no-line, reader, line}
-use Rattle.model.specs.Records.{writing, reading, ended}
+use Rattle.model.specs.Stamps.{Stamp, rank, no-stamp}
+use Rattle.model.specs.State.{State, Held, index, unused, new-reader, new-mark, no-line, reader, line}
+use Rattle.model.specs.Records.{writing, best, reading, ended}
 use Rattle.model.specs.Deliveries.{Effect}
 use Rattle.model.specs.Steps.{counted, next-number, to-write, write, opening-phase, opening-message, read, settled}
 use Rattle.model.specs.History.{Event, History}
 use Rattle.model.specs.Claims.{Finishes}
 use Rattle.model.proofs.Sets.{none}
 use Rattle.model.proofs.Lists.{each-set, get-set, get-old, get-new, length-push, one, all-to-all, in-to-all}
+use Rattle.model.proofs.Ranks.{rank-start, rank-next}
 use Rattle.model.proofs.World.{put-at, put-same, put-other, put-each, Op, World, Later, Core}
 use Rattle.model.proofs.Moves.{read-op, write-op, read-begun, write-begun, later-read, core-read, later-write, core-write}
-use Rattle.model.proofs.Good.{apart-writer, apart-reader, current, Says, InPhase, Writing, LineGood, AtWork, Opens, Good, Kept, true-later, mark-later, messages-later, Still, phase-later, writing-later, line-later, advance}
+use Rattle.model.proofs.Good.{apart-writer, apart-reader, current, start-true, Says, InPhase, Writing, LineGood, AtWork, Opens, Good, Kept, true-later, mark-later, messages-later, Still, phase-later, writing-later, line-later, advance}
 use Rattle.model.proofs.Steps.{work-later}
 use Rattle.model.proofs.Ends.{line-none}
 
@@ -38,9 +40,9 @@ abbrev pub opening : {F : Type 0} → Call F → Effect F → Event F
 opening c e = record { call = c; reply = e .reply; taken = []; sent = e .sent }
 
 module _ {F : Type 0} (q : Rule) (R : ℕ) (law : Lawful q) (start : F) (w : World F) (s : State F) (h : History F) (g : Good q R start w s h) where
-  module _ (o : Op) (last : ℕ) (fig : ℕ → F) (wrote : ℕ → ℕ) where
+  module _ (o : Op) (last : ℕ) (value : ℕ → Held F) (wrote : ℕ → ℕ) where
     abbrev v₅ : World F
-    v₅ = record { now = suc (w .now); last = last; count = suc (w .count); at = w .at; ops = put-at (w .ops) (suc (w .count)) o; fig = fig; wrote = wrote; since = w .since }
+    v₅ = record { now = suc (w .now); last = last; count = suc (w .count); at = w .at; ops = put-at (w .ops) (suc (w .count)) o; value = value; wrote = wrote; since = w .since }
 
     module _ (up : Later q w v₅) (core : Core q v₅) (born : 1 ≤ o .stage) (unfinished : o .stage ≤ 2) (begun-is : o .begun ≡ w .now) where
       number-is : suc (w .count) ≡ next-number s
@@ -71,7 +73,7 @@ module _ {F : Type 0} (q : Rule) (R : ℕ) (law : Lawful q) (start : F) (w : Wor
               | inr e ↦ work-later (s .start) _ _ _ _ i (w .ops i) (others ((w .ops i) .owner) e) (g .at-work i)
             ])
 
-        pub begins : (c : Call F) (sent : List (Message F)) → last ≡ wr .last
+        pub begins : (c : Call F) (sent : List (Message F)) → last ≡ rank (wr .last)
             → All (λ m. Says q R v₅ (m .kind) m) sent
             → Opens v₅ (next-number s) c sent
             → length d ≡ R
@@ -118,7 +120,7 @@ module _ {F : Type 0} (q : Rule) (R : ℕ) (law : Lawful q) (start : F) (w : Wor
               begun = put-each (λ i p. 1 ≤ p .stage → (1 ≤ (w .ops i) .stage) ⊎ ((p .begun ≡ length h) × (_≡_ {A = Reply F} (Reply.Started (next-number s)) (Reply.Started i)))) (w .ops) (suc (w .count)) o
                   (λ _. inr (begun-is ∙ g .now-is, λ i. Reply.Started (sym number-is i)))
                   (λ i _ l. inl l);
-              ended = put-each (λ i p. 3 ≤ p .stage → (3 ≤ (w .ops i) .stage) ⊎ ((p .ended ≡ length h) × Finishes (record { call = c; reply = Reply.Started (next-number s); taken = []; sent = sent }) i (record { stamp = p .aim; figure = fig (p .aim) }))) (w .ops) (suc (w .count)) o
+              ended = put-each (λ i p. 3 ≤ p .stage → (3 ≤ (w .ops i) .stage) ⊎ ((p .ended ≡ length h) × Finishes (record { call = c; reply = Reply.Started (next-number s); taken = []; sent = sent }) i (value (p .aim)))) (w .ops) (suc (w .count)) o
                   (λ l. absurd (omega arith)) (λ i _ l. inl l);
             })
 
@@ -135,30 +137,30 @@ module _ {F : Type 0} (q : Rule) (R : ℕ) (law : Lawful q) (start : F) (w : Wor
       owner-reads = subst (λ p. p ≡ Party.Reader (index p)) (sym (ap (λ y. y .owner) e)) refl;
     }
 
-    opened : (kind : ReadKind) (d : Reader F) → d .«best_stamp» ≡ 0 → d .«best_figure» ≡ start → d .replies ≡ 0 → v₆ .ops (d .operation) ≡ read-op w (Party.Reader r) → InPhase q v₆ r (opening-phase kind) d
-    opened ReadKind.Quick d b f z e = record {
+    opened : (kind : ReadKind) (d : Reader F) → best d ≡ unused start → d .replies ≡ 0 → v₆ .ops (d .operation) ≡ read-op w (Party.Reader r) → InPhase q v₆ r (opening-phase kind) d
+    opened ReadKind.Quick d b z e = record {
       stage-is = ap (λ y. y .stage) e;
       owner-is = ap (λ y. y .owner) e;
       reads = ap (λ y. y .reading) e;
-      true-figure = record { low = omega arith; is = f ∙ sym (g .first-fig) ∙ ap (w .fig) (sym b) };
+      true-figure = start-true v₆ start (g .first-value) (best d) b;
       asked = λ c m. absurd (both-ways (bits 0 c) (none c) (rw z at m));
-      holding = λ c m. omega arith;
+      holding = λ c m. omega (arith, ap (λ y. rank (y .stamp)) b, rank-start);
     }
-    opened ReadKind.Settled d b f z e = record {
+    opened ReadKind.Settled d b z e = record {
       stage-is = ap (λ y. y .stage) e;
       owner-is = ap (λ y. y .owner) e;
       reads = ap (λ y. y .reading) e;
-      true-figure = record { low = omega arith; is = f ∙ sym (g .first-fig) ∙ ap (w .fig) (sym b) };
+      true-figure = start-true v₆ start (g .first-value) (best d) b;
       asked = λ c m. absurd (both-ways (bits 0 c) (none c) (rw z at m));
-      holding = λ c m. omega arith;
+      holding = λ c m. omega (arith, ap (λ y. rank (y .stamp)) b, rank-start);
     }
-    opened ReadKind.Relay d b f z e = record {
+    opened ReadKind.Relay d b z e = record {
       stage-is = ap (λ y. y .stage) e;
       owner-is = ap (λ y. y .owner) e;
       reads = ap (λ y. y .reading) e;
-      true-figure = record { low = omega arith; is = f ∙ sym (g .first-fig) ∙ ap (w .fig) (sym b) };
+      true-figure = start-true v₆ start (g .first-value) (best d) b;
       high = λ n. absurd (n z);
-      placed = λ c m. omega arith;
+      placed = λ c m. omega (arith, ap (λ y. rank (y .stamp)) b, rank-start);
     }
 
   module _ (r : ℕ) (low : r < R) (free : (reader s r) .operation ≡ 0) (d : Reader F) (op-is : d .operation ≡ next-number s) where
@@ -180,22 +182,22 @@ module _ {F : Type 0} (q : Rule) (R : ℕ) (law : Lawful q) (start : F) (w : Wor
       let up = later-read q law w (g .core) p in
       let v = read-begun w p in
       let core = core-read q law w (g .core) p in
-      let hr = here o (w .last) (w .fig) (w .wrote) up core (omega arith) (omega arith) refl in
-      let st = still o (w .last) (w .fig) (w .wrote) up core (omega arith) (omega arith) refl in
+      let hr = here o (w .last) (w .value) (w .wrote) up core (omega arith) (omega arith) refl in
+      let st = still o (w .last) (w .value) (w .wrote) up core (omega arith) (omega arith) refl in
       let d = reading (s .start) (reader s r) (next-number s) (opening-phase kind) in
       record {
         world = v;
         good =
-            begins o (w .last) (w .fig) (w .wrote) up core (omega arith) (omega arith) refl
-            (record { kind = OperationKind.Read kind; owner = p; started = next-number s + s .finished; finished = 0; exchanges = 0; stamp = 0; figure = s .start; sent = 0 })
-            (record { owner-is = λ _. refl; write-stamp = λ _ f. absurd (both-ways _ f refl); write-figure = λ _ f. absurd (both-ways _ f refl) })
+            begins o (w .last) (w .value) (w .wrote) up core (omega arith) (omega arith) refl
+            (record { kind = OperationKind.Read kind; owner = p; started = next-number s + s .finished; finished = 0; exchanges = 0; stamp = no-stamp; figure = s .start; sent = 0 })
+            (record { owner-is = λ _. refl; write-rank = λ _ f. absurd (both-ways _ f refl); write-value = λ _ f. absurd (both-ways _ f refl) })
             (set (s .readers) r d) (s .writer) free (now-read r low free d refl) (others-read r low free d refl) (apart-reader r)
             (Call.Read r kind) _ (g .last-is)
             (all-to-all (opening-message kind) (next-number s) p (unused (s .start)) (λ m. Says q R v (m .kind) m) (q .size) (λ c _. asked r low kind _ hr))
             (record { reads = ap (λ y. y .reading) hr; owner-is = ap (λ y. y .owner) hr })
             (length-set (s .readers) r d ∙ g .readers-are)
             (each-set (λ k y. InPhase q v k (y .phase) y) (s .readers) r d _
-            (opened r low kind d refl (g .start-is) refl hr)
+            (opened r low kind d (ap unused (g .start-is)) refl hr)
             (λ _. tt)
             (λ k n. phase-later q R start w v up k (st (Party.Reader k)) _ _ (g .readers k)))
             (writing-later q R start w v up (st Party.Writer) (s .writer .operation) (s .writer .acknowledgers) (g .writer));
@@ -209,31 +211,32 @@ module _ {F : Type 0} (q : Rule) (R : ℕ) (law : Lawful q) (start : F) (w : Wor
   pub kept-write : (f : F) → s .writer .operation ≡ 0 → Kept q R start h (opening (Call.Write f)) (write q s f)
   unfolding write
   kept-write f free =
-      let o = write-op w Party.Writer in
-      let fig = put-at (w .fig) (suc (w .last)) f in
-      let wrote = put-at (w .wrote) (suc (w .last)) (suc (w .count)) in
-      let up = later-write q law w (g .core) Party.Writer f in
-      let v = write-begun w Party.Writer f in
-      let core = core-write q law w (g .core) Party.Writer f in
-      let hr = here o (suc (w .last)) fig wrote up core (omega arith) (omega arith) refl in
-      let st = still o (suc (w .last)) fig wrote up core (omega arith) (omega arith) refl in
-      let l : suc (s .writer .last) ≡ suc (w .last) = omega (arith, g .last-is) in
-      let figure-is : f ≡ fig (suc (s .writer .last)) = sym (ap fig l ∙ put-same (w .fig) (suc (w .last)) f) in
-      let x = to-write s f in
+      let x : Held F = to-write s f in
+      let a : ℕ = rank (x .stamp) in
+      let above : w .last < a = omega (arith, g .last-is, rank-next (s .writer .last)) in
+      let o = write-op w Party.Writer a in
+      let value = put-at (w .value) a x in
+      let wrote = put-at (w .wrote) a (suc (w .count)) in
+      let up = later-write q law w (g .core) Party.Writer a above x in
+      let v = write-begun w Party.Writer a x in
+      let core = core-write q law w (g .core) Party.Writer a above x in
+      let hr = here o a value wrote up core (omega arith) (omega arith) refl in
+      let st = still o a value wrote up core (omega arith) (omega arith) refl in
+      let value-is : x ≡ value a = sym (put-same (w .value) a x) in
       record {
         world = v;
         good =
-            begins o (suc (w .last)) fig wrote up core (omega arith) (omega arith) refl
-            (record { kind = OperationKind.Write; owner = Party.Writer; started = next-number s + s .finished; finished = 0; exchanges = 0; stamp = suc (s .writer .last); figure = f; sent = 0 })
-            (record { owner-is = λ _. refl; write-stamp = λ _ _. l; write-figure = λ _ _. sym (put-same (w .fig) (suc (w .last)) f) })
+            begins o a value wrote up core (omega arith) (omega arith) refl
+            (record { kind = OperationKind.Write; owner = Party.Writer; started = next-number s + s .finished; finished = 0; exchanges = 0; stamp = x .stamp; figure = f; sent = 0 })
+            (record { owner-is = λ _. refl; write-rank = λ _ _. refl; write-value = λ _ _. value-is })
             (s .readers) (writing (s .writer) (next-number s) (x .stamp)) free refl (others-write (next-number s)) apart-writer
-            (Call.Write f) _ (sym l)
+            (Call.Write f) _ refl
             (all-to-all MessageKind.Put (next-number s) Party.Writer x (λ m. Says q R v (m .kind) m) (q .size)
-            (λ c k. record { settled = omega (arith, ap (λ y. y .stage) hr); aims = l ∙ sym (ap (λ y. y .aim) hr); true-figure = record { low = omega arith; is = figure-is }; to-low = k }))
+            (λ c k. record { settled = omega (arith, ap (λ y. y .stage) hr); aims = sym (ap (λ y. y .aim) hr); true-figure = record { written = record { low = omega arith; by-one = λ _. omega (arith, put-same (w .wrote) a (suc (w .count))) }; is = value-is }; to-low = k }))
             (record {
               writes = ap (λ y. y .reading) hr;
               settled = omega (arith, ap (λ y. y .stage) hr);
-              figure-is = ap fig (ap (λ y. y .aim) hr) ∙ put-same (w .fig) (suc (w .last)) f;
+              figure-is = ap (λ y. y .figure) (ap (λ y. value (y .aim)) hr ∙ sym value-is);
               aim-low = omega (arith, ap (λ y. y .aim) hr);
               owner-is = ap (λ y. y .owner) hr;
               puts = (one MessageKind.Put (next-number s) Party.Writer x 0, in-to-all MessageKind.Put (next-number s) Party.Writer x (q .size) 0 (law .least), refl, refl);

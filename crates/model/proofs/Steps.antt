@@ -1,5 +1,5 @@
 -- Steps that leave the operations and the replicas' stamps as they are keep what is known.
-use mathlib.Core.Path.{_≡_, refl, sym, _∙_, subst}
+use mathlib.Core.Path.{_≡_, refl, sym, ap, _∙_, subst}
 use mathlib.Core.Logic.{inl}
 use mathlib.Core.List.{List, [], _∷_, _++_}
 use Prim.Native.Nat.{ℕ, pred, _/_, _<_}
@@ -19,6 +19,7 @@ use Rattle.model.specs.declared.messages.Message.{Message}
 use Rattle.model.specs.declared.journal.Operation.{Operation}
 use Rattle.model.specs.declared.calls.Call.{Call}
 use Rattle.model.specs.declared.answers.Refusal.{Refusal}
+use Rattle.model.specs.Stamps.{rank}
 use Rattle.model.specs.State.{State, index, new-replica, new-reader, new-mark, no-line, replica, reader, line, with-messages}
 use Rattle.model.specs.Records.{writer-halted, reader-halted, one-sent, ended}
 use Rattle.model.specs.Deliveries.{Effect, quiet, on-query, on-fan}
@@ -44,13 +45,13 @@ module _ {F : Type 0} where
   length-counted f (m ∷ l) journal = length-counted f l _ ∙ length-set journal (pred (m .operation)) _
 
   one-more-line : (w : World F) (o : Op) (l : Operation F) → LineGood w o l → LineGood w o (one-sent l)
-  one-more-line w o l x = record { owner-is = x .owner-is; write-stamp = x .write-stamp; write-figure = x .write-figure }
+  one-more-line w o l x = record { owner-is = x .owner-is; write-rank = x .write-rank; write-value = x .write-value }
 
   -- What is sent joins the other messages.
   pub posts : (q : Rule) (R : ℕ) (start : F) (w : World F) (s : State F) (h : History F) (e : Event F) → Good q R start w s (h ++ e ∷ []) → Good q R start w (posted s (e .sent)) (h ++ e ∷ [])
   posts q R start w s h e g = record {
     core = g .core;
-    first-fig = g .first-fig;
+    first-value = g .first-value;
     start-is = g .start-is;
     now-is = g .now-is;
     count-is = g .count-is ∙ sym (length-counted (s .start) (e .sent) (s .journal));
@@ -109,7 +110,7 @@ module _ {F : Type 0} (q : Rule) (R : ℕ) (law : Lawful q) (start : F) (w : Wor
       → wr .last ≡ s .writer .last
       → wr .operation ≡ s .writer .operation
       → ((r : ℕ) → (getD d r (new-reader (s .start))) .operation ≡ (reader s r) .operation)
-      → ((c : ℕ) → v₁ .at c ≡ (getD l c (new-replica (s .start))) .stamp)
+      → ((c : ℕ) → v₁ .at c ≡ rank ((getD l c (new-replica (s .start))) .stamp))
       → ((c : ℕ) → True v₁ ((getD l c (new-replica (s .start))) .stamp) ((getD l c (new-replica (s .start))) .figure))
       → All (λ m. Says q R v₁ (m .kind) m) t
       → ((r : ℕ) → InPhase q v₁ r ((getD d r (new-reader (s .start))) .phase) (getD d r (new-reader (s .start))))
@@ -121,7 +122,7 @@ module _ {F : Type 0} (q : Rule) (R : ℕ) (law : Lawful q) (start : F) (w : Wor
         start-is = g .start-is;
         now-is = refl;
         count-is = g .count-is;
-        last-is = g .last-is ∙ sym same-last;
+        last-is = g .last-is ∙ ap rank (sym same-last);
         at-is = at-is;
         figures = figures;
         replicas-are = sized;
@@ -176,7 +177,7 @@ module _ {F : Type 0} (q : Rule) (R : ℕ) (law : Lawful q) (start : F) (w : Wor
     world = v₁;
     good =
         ticks _ (s .readers) (s .messages) (s .writer) _ (record { answers = tt; sent-says = tt }) (length-set (s .replicas) c _ ∙ g .replicas-are) (g .readers-are) refl refl (λ r. refl)
-        (each-set-all (λ k x. v₁ .at k ≡ x .stamp) (s .replicas) c _ _ (g .at-is c) (g .at-is))
+        (each-set-all (λ k x. v₁ .at k ≡ rank (x .stamp)) (s .replicas) c _ _ (g .at-is c) (g .at-is))
         (each-set-all (λ k x. True v₁ (x .stamp) (x .figure)) (s .replicas) c _ _ (old-figures c) old-figures)
         old-messages old-reader old-writer;
   }

@@ -15,6 +15,7 @@ use Rattle.model.specs.declared.writer.Writer.{Writer}
 use Rattle.model.specs.declared.replica.Replica.{Replica}
 use Rattle.model.specs.declared.reader.Reader.{Reader}
 use Rattle.model.specs.declared.messages.Message.{Message}
+use Rattle.model.specs.Stamps.{rank}
 use Rattle.model.specs.State.{State, Held, index, line, halted, with-writer}
 use Rattle.model.specs.Records.{acknowledged, writer-freed, replied-by, heard, lowered, one-more, ended}
 use Rattle.model.specs.Deliveries.{Effect, quiet, finish-event, finishing, written, on-put-ack, in-first, in-second, in-relay, counts, on}
@@ -89,16 +90,16 @@ hearing-by d c x holders = record { halted-is = refl; operation-is = refl; phase
 pub hearing-heard : {F : Type 0} (d : Reader F) (c : ℕ) (x : Held F) → Hearing d c (heard d c x)
 unfolding heard
 hearing-heard d c x =
-    cond-both (ltb (d .«best_stamp») (x .stamp)) _ _ (Hearing d c) (λ _. hearing-by d c x _)
-    (λ _. cond-both (eqb (d .«best_stamp») (x .stamp)) _ _ (Hearing d c) (λ _. hearing-by d c _ _) (λ _. hearing-by d c _ _))
+    cond-both (ltb (rank (d .«best_stamp»)) (rank (x .stamp))) _ _ (Hearing d c) (λ _. hearing-by d c x _)
+    (λ _. cond-both (eqb (rank (d .«best_stamp»)) (rank (x .stamp))) _ _ (Hearing d c) (λ _. hearing-by d c _ _) (λ _. hearing-by d c _ _))
 
 pub hearing-lowered : {F : Type 0} (d : Reader F) (c : ℕ) (x : Held F) → Hearing d c (lowered d c x)
 unfolding lowered
-hearing-lowered d c x = cond-both (eqb (d .replies) 0 || ltb (x .stamp) (d .«best_stamp»)) _ _ (Hearing d c) (λ _. hearing-by d c x _) (λ _. hearing-by d c _ _)
+hearing-lowered d c x = cond-both (eqb (d .replies) 0 || ltb (rank (x .stamp)) (rank (d .«best_stamp»))) _ _ (Hearing d c) (λ _. hearing-by d c x _) (λ _. hearing-by d c _ _)
 
 module _ {F : Type 0} (w : World F) (r : ℕ) (d : Reader F) (c : ℕ) (x : Held F) (p : First w r d)
-    (fresh : (w .ops (d .operation)) .snap c ≤ x .stamp) (grown : x .stamp ≤ w .at c) (told : True w (x .stamp) (x .figure)) where
-  asked-more : (b : ℕ) → d .«best_stamp» ≤ b → x .stamp ≤ b → (k : ℕ) → bits (joined (d .replies) c) k ≡ true → (w .ops (d .operation)) .snap k ≤ b
+    (fresh : (w .ops (d .operation)) .snap c ≤ rank (x .stamp)) (grown : rank (x .stamp) ≤ w .at c) (told : True w (x .stamp) (x .figure)) where
+  asked-more : (b : ℕ) → rank (d .«best_stamp») ≤ b → rank (x .stamp) ≤ b → (k : ℕ) → bits (joined (d .replies) c) k ≡ true → (w .ops (d .operation)) .snap k ≤ b
   asked-more b l n k m = elim (joined-cases (d .replies) c k m) [
     | inl i ↦ omega (arith, ap ((w .ops (d .operation)) .snap) i)
     | inr o ↦ omega (arith, p .asked k o)
@@ -108,30 +109,30 @@ module _ {F : Type 0} (w : World F) (r : ℕ) (d : Reader F) (c : ℕ) (x : Held
   pub hears : First w r (heard d c x)
   unfolding heard
   hears =
-      cond-both (ltb (d .«best_stamp») (x .stamp)) _ _ (First w r)
+      cond-both (ltb (rank (d .«best_stamp»)) (rank (x .stamp))) _ _ (First w r)
       (λ l. record {
         stage-is = p .stage-is;
         owner-is = p .owner-is;
         reads = p .reads;
         true-figure = told;
-        asked = asked-more (x .stamp) (omega (arith, ltb-true (d .«best_stamp») (x .stamp) l)) (omega arith);
+        asked = asked-more (rank (x .stamp)) (omega (arith, ltb-true (rank (d .«best_stamp»)) (rank (x .stamp)) l)) (omega arith);
         holding = λ k m. elim (joined-cases 0 c k m) [ inl i ↦ rw i grown | inr o ↦ absurd (both-ways (bits 0 k) (none k) o) ];
       })
-      (λ l. cond-both (eqb (d .«best_stamp») (x .stamp)) _ _ (First w r)
+      (λ l. cond-both (eqb (rank (d .«best_stamp»)) (rank (x .stamp))) _ _ (First w r)
       (λ b. record {
         stage-is = p .stage-is;
         owner-is = p .owner-is;
         reads = p .reads;
         true-figure = p .true-figure;
-        asked = asked-more (d .«best_stamp») (omega arith) (ltb-false (d .«best_stamp») (x .stamp) l);
-        holding = λ k m. elim (joined-cases (d .holders) c k m) [ inl i ↦ rw i (omega (arith, eqb-true (d .«best_stamp») (x .stamp) b)) | inr o ↦ p .holding k o ];
+        asked = asked-more (rank (d .«best_stamp»)) (omega arith) (ltb-false (rank (d .«best_stamp»)) (rank (x .stamp)) l);
+        holding = λ k m. elim (joined-cases (d .holders) c k m) [ inl i ↦ rw i (omega (arith, eqb-true (rank (d .«best_stamp»)) (rank (x .stamp)) b)) | inr o ↦ p .holding k o ];
       })
       (λ b. record {
         stage-is = p .stage-is;
         owner-is = p .owner-is;
         reads = p .reads;
         true-figure = p .true-figure;
-        asked = asked-more (d .«best_stamp») (omega arith) (ltb-false (d .«best_stamp») (x .stamp) l);
+        asked = asked-more (rank (d .«best_stamp»)) (omega arith) (ltb-false (rank (d .«best_stamp»)) (rank (x .stamp)) l);
         holding = p .holding;
       }))
 
@@ -159,7 +160,7 @@ module _ {F : Type 0} (q : Rule) (R : ℕ) (law : Lawful q) (start : F) (w : Wor
           world = changed w j (ended-op (w .ops j) ((w .ops j) .aim) (w .now));
           good =
               ends q R law start w s h g j ((w .ops j) .aim) b (omega arith) (λ _. refl) new
-              (ended (line s j) (finish-event s) (written s j) 2) refl (written s j) (g .lines j .write-stamp b (x .writes pos)) (g .lines j .write-figure b (x .writes pos)) refl refl
+              (ended (line s j) (finish-event s) (written s j) 2) refl (written s j) (g .lines j .write-rank b (x .writes pos)) (g .lines j .write-value b (x .writes pos)) refl
               (s .readers) (writer-freed (acknowledged (s .writer) c)) refl
               (subst (λ p. current (s .start) 0 (s .readers) p ≡ 0) (sym (x .owner-is pos)) refl) others (λ p. rw (x .owner-is pos) (apart-writer p))
               (one-more (s .finished)) _ ((line s j) .sent) 2 refl refl place refl (g .readers-are)

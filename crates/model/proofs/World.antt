@@ -1,4 +1,5 @@
--- What the proofs keep beside the tables: stamps, operations with the stamps at their start, and since when a stamp is held.
+-- What the proofs keep beside the tables: operations with what the replicas held at their start, what was written, and since
+-- when it is held. All stamps are ranks here.
 use mathlib.Core.Path.{_≡_, refl, sym, _∙_, subst}
 use mathlib.Core.Bool.{Bool, true, false, cond}
 use mathlib.Core.Logic.{inl, inr}
@@ -9,6 +10,7 @@ use Rattle.std.proofs.shelf.Tests.{cond-both, cond-true, cond-false, cases-bool
 use Rattle.quorum.specs.Sets.{Rule, Members}
 use Rattle.quorum.specs.Laws.{Lawful}
 use Rattle.model.specs.declared.parties.Party.{Party}
+use Rattle.model.specs.State.{Held}
 
 -- A function changed at one number.
 unfoldable pub put-at : {A : Type 0} → (ℕ → A) → ℕ → A → ℕ → A
@@ -70,7 +72,8 @@ module _ (q : Rule) where
     pub held-low : (at : ℕ → ℕ) (t last : ℕ) → ((c : ℕ) → at c ≤ last) → held at t ≡ true → t ≤ last
     held-low at t last low h = let m = meets-held everyone at t everyone-round h in let l = low (m .0) in let k = m .3 in omega arith
 
--- An operation. Stage 0: not begun; 1: begun; 2: its stamp, the aim, is settled; 3: finished. snap is the replicas' stamps when it began.
+-- An operation. Stage 0: not begun; 1: begun; 2: its stamp, the aim, is settled; 3: finished. snap has the replicas' stamps
+-- when it began.
 pub record Op : Type 0 where
   pub stage : ℕ
   pub begun : ℕ
@@ -81,14 +84,22 @@ pub record Op : Type 0 where
   pub snap : ℕ → ℕ
 
 pub record World (F : Type 0) : Type 0 where
+  -- how many calls there were, the writer's last stamp, how many operations were begun
   pub now : ℕ
   pub last : ℕ
   pub count : ℕ
+  -- each replica's stamp
   pub at : ℕ → ℕ
   pub ops : ℕ → Op
-  pub fig : ℕ → F
+  -- what was written under a stamp, by which operation (0 if by none), and since when it is held
+  pub value : ℕ → Held F
   pub wrote : ℕ → ℕ
   pub since : ℕ → ℕ
+
+-- The start's stamp, or that of a write.
+pub record Written {F : Type 0} (w : World F) (t : ℕ) : Type 0 where
+  pub low : t ≤ w .last
+  pub by-one : 0 < t → 0 < w .wrote t
 
 -- Operation p is operation o later.
 pub record Onward (o p : Op) : Type 0 where
@@ -111,7 +122,7 @@ module _ (q : Rule) {F : Type 0} where
     pub count-up : w .count ≤ v .count
     pub at-up : (c : ℕ) → w .at c ≤ v .at c
     pub ops-up : (j : ℕ) → Onward (w .ops j) (v .ops j)
-    pub same-fig : (t : ℕ) → t ≤ w .last → v .fig t ≡ w .fig t
+    pub same-value : (t : ℕ) → t ≤ w .last → v .value t ≡ w .value t
     pub same-wrote : (t : ℕ) → t ≤ w .last → v .wrote t ≡ w .wrote t
     pub since-old : (t : ℕ) → held q (w .at) t ≡ true → v .since t ≡ w .since t
     pub since-new : (t : ℕ) → held q (w .at) t ≡ false → held q (v .at) t ≡ true → w .now ≤ v .since t
@@ -123,7 +134,7 @@ module _ (q : Rule) {F : Type 0} where
     pub grown : 1 ≤ o .stage → (c : ℕ) → o .snap c ≤ w .at c
     pub fresh-since : 1 ≤ o .stage → (t : ℕ) → held q (o .snap) t ≡ false → held q (w .at) t ≡ true → o .begun ≤ w .since t
     pub write-settled : 1 ≤ o .stage → o .reading ≡ false → 2 ≤ o .stage
-    pub aim-low : 2 ≤ o .stage → o .aim ≤ w .last
+    pub aim-written : 2 ≤ o .stage → Written w (o .aim)
     pub read-aim : 2 ≤ o .stage → o .reading ≡ true → (t : ℕ) → o .aim < t → held q (o .snap) t ≡ false
     pub write-aim : 2 ≤ o .stage → o .reading ≡ false → (t : ℕ) → o .aim ≤ t → held q (o .snap) t ≡ false
     pub write-own : 2 ≤ o .stage → o .reading ≡ false → w .wrote (o .aim) ≡ j
@@ -132,7 +143,9 @@ module _ (q : Rule) {F : Type 0} where
     pub kept-since : 3 ≤ o .stage → w .since (o .aim) ≤ o .ended
     pub ended-after : 3 ≤ o .stage → o .begun ≤ o .ended
 
+  -- Operation o is the write of stamp t.
   pub record Source (w : World F) (t : ℕ) (o : Op) : Type 0 where
+    pub low : t ≤ w .last
     pub settled : 2 ≤ o .stage
     pub writing : o .reading ≡ false
     pub aims : o .aim ≡ t
@@ -142,7 +155,13 @@ module _ (q : Rule) {F : Type 0} where
     pub paced : (t u : ℕ) → t ≤ u → held q (w .at) u ≡ true → w .since t ≤ w .since u
     pub past : (t : ℕ) → held q (w .at) t ≡ true → w .since t ≤ w .now
     pub op : (j : ℕ) → OpGood w j (w .ops j)
-    pub source : (t : ℕ) → 0 < t → t ≤ w .last → Source w t (w .ops (w .wrote t))
+    pub source : (t : ℕ) → 0 < w .wrote t → Source w t (w .ops (w .wrote t))
+
+  pub written-later : (w v : World F) → Later w v → {t : ℕ} → Written w t → Written v t
+  written-later w v up {t} x = record {
+    low = omega (arith, x .low, up .last-up);
+    by-one = λ p. omega (arith, x .by-one p, up .same-wrote t (x .low));
+  }
 
   module _ (law : Lawful q) (w v : World F) (up : Later w v) where
     -- What is known of an operation that stays as it is.
@@ -157,10 +176,10 @@ module _ (q : Rule) {F : Type 0} where
         | inr e ↦ omega (arith, g .in-past s, up .since-new t e h)
       ];
       write-settled = g .write-settled;
-      aim-low = λ s. omega (arith, g .aim-low s, up .last-up);
+      aim-written = λ s. written-later w v up (g .aim-written s);
       read-aim = g .read-aim;
       write-aim = g .write-aim;
-      write-own = λ s r. up .same-wrote (o .aim) (g .aim-low s) ∙ g .write-own s r;
+      write-own = λ s r. up .same-wrote (o .aim) (g .aim-written s .low) ∙ g .write-own s r;
       write-positive = g .write-positive;
       kept = λ s. held-up q law (w .at) (v .at) (o .aim) (o .aim) (λ c l. omega (arith, l, up .at-up c)) (g .kept s);
       kept-since = λ s. omega (arith, g .kept-since s, up .since-old (o .aim) (g .kept s));

@@ -14,7 +14,8 @@ use Rattle.model.specs.declared.messages.MessageKind.{MessageKind}
 use Rattle.model.specs.declared.messages.Message.{Message}
 use Rattle.model.specs.declared.calls.Call.{Call}
 use Rattle.model.specs.declared.answers.Reply.{Reply}
-use Rattle.model.specs.State.{State, Stamp, Held, unused, line, halted}
+use Rattle.model.specs.Stamps.{Stamp}
+use Rattle.model.specs.State.{State, Held, unused, line, halted}
 use Rattle.model.specs.History.{Event, History, Grows}
 
 -- Lists

@@ -9,7 +9,8 @@ use Rattle.model.specs.declared.replica.Replica.{Replica}
 use Rattle.model.specs.declared.reader.Reader.{Reader}
 use Rattle.model.specs.declared.marks.RelayMark.{RelayMark}
 use Rattle.model.specs.declared.journal.Operation.{Operation}
-use Rattle.model.specs.State.{Stamp, Held, rank, unused}
+use Rattle.model.specs.Stamps.{Stamp, rank}
+use Rattle.model.specs.State.{Held, unused}
 
 -- A replica takes a stamp and its figure only if the stamp is above its own.
 abbrev pub took : {F : Type 0} → Held F → Held F → Held F

@@ -14,16 +14,7 @@ use Rattle.model.specs.declared.reader.Reader.{Reader}
 use Rattle.model.specs.declared.marks.RelayMark.{RelayMark}
 use Rattle.model.specs.declared.messages.Message.{Message}
 use Rattle.model.specs.declared.journal.Operation.{Operation}
-
--- Stamps are compared only by their ranks.
-abbrev pub Stamp : Type 0
-Stamp = ℕ
-
-abbrev pub rank : Stamp → ℕ
-rank t = t
-
-abbrev pub no-stamp : Stamp
-no-stamp = 0
+use Rattle.model.specs.Stamps.{Stamp, no-stamp}
 
 -- A stamp and its figure, as a replica holds them and a message carries them.
 pub record Held (F : Type 0) : Type 0 where

@@ -17,7 +17,8 @@ use Rattle.model.specs.declared.journal.Operation.{Operation}
 use Rattle.model.specs.declared.calls.Call.{Call}
 use Rattle.model.specs.declared.answers.Reply.{Reply}
 use Rattle.model.specs.declared.answers.Refusal.{Refusal}
-use Rattle.model.specs.State.{State, Stamp, Held, rank, no-line, unused, replica, reader, message, halted, with-writer, with-replicas, with-reader, with-messages, with-journal, without-message}
+use Rattle.model.specs.Stamps.{Stamp, rank, next-stamp}
+use Rattle.model.specs.State.{State, Held, no-line, unused, replica, reader, message, halted, with-writer, with-replicas, with-reader, with-messages, with-journal, without-message}
 use Rattle.model.specs.Records.{writing, writer-halted, replica-halted, reading, reader-halted, one-sent}
 use Rattle.model.specs.Sound.{sound}
 use Rattle.model.specs.Deliveries.{Effect, to-all, received}
@@ -53,9 +54,6 @@ next-number s = suc (length (s .journal))
 abbrev pub with-line : {F : Type 0} → State F → OperationKind → Party → Held F → State F
 with-line s kind owner x =
     with-journal s (s .journal ++ record { kind = kind; owner = owner; started = next-number s + s .finished; finished = 0; exchanges = 0; stamp = x .stamp; figure = x .figure; sent = 0 } ∷ []) (s .finished)
-
-abbrev pub next-stamp : Stamp → Stamp
-next-stamp t = suc t
 
 abbrev pub to-write : {F : Type 0} → State F → F → Held F
 to-write s f = record { stamp = next-stamp (s .writer .last); figure = f }
