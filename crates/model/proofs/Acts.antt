@@ -14,10 +14,9 @@ use Rattle.model.specs.declared.replica.Replica.{Replica}
 use Rattle.model.specs.declared.marks.RelayMark.{RelayMark}
 use Rattle.model.specs.declared.messages.Message.{Message}
 use Rattle.model.specs.Stamps.{rank}
-use Rattle.model.specs.State.{State, Held, index, new-replica, new-mark, replica, line, held, halted, with-marks, with-held}
-use Rattle.model.specs.Records.{took, ended}
+use Rattle.model.specs.State.{State, Held, index, new-replica, new-mark, replica, line, held, with-marks, with-held}
+use Rattle.model.specs.Records.{took}
 use Rattle.model.specs.Deliveries.{Effect, carried, on-offer}
-use Rattle.model.specs.Steps.{settled}
 use Rattle.model.specs.History.{Event, History}
 use Rattle.model.proofs.Lists.{each-set-all, get-set}
 use Rattle.model.proofs.World.{World, Later}

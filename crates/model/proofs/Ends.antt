@@ -23,7 +23,6 @@ use Rattle.model.specs.Stamps.{rank}
 use Rattle.model.specs.State.{State, Held, new-reader, new-mark, no-line, line, with-reader}
 use Rattle.model.specs.Records.{one-more, ended}
 use Rattle.model.specs.Deliveries.{finish-event, finishing, on}
-use Rattle.model.specs.Steps.{counted}
 use Rattle.model.specs.History.{Event, History}
 use Rattle.model.specs.Claims.{Finishes, delivering}
 use Rattle.model.proofs.Lists.{each-set, get-set}

@@ -3,7 +3,7 @@ use mathlib.Core.Path.{_≡_, refl}
 use mathlib.Core.List.{List, [], _∷_}
 use mathlib.Core.Bool.{true, false}
 use Prim.Native.Nat.{ℕ}
-use Rattle.quorum.specs.Sets.{Rule, bits, joined, count, every, some}
+use Rattle.quorum.specs.Sets.{Rule}
 use Rattle.quorum.specs.Families.{count-rule, grid-rule, lead-rule}
 use Rattle.model.specs.declared.parties.Party.{Party}
 use Rattle.model.specs.declared.reader.Phase.{Phase}
@@ -13,9 +13,7 @@ use Rattle.model.specs.declared.journal.ReadKind.{ReadKind}
 use Rattle.model.specs.declared.calls.Call.{Call}
 use Rattle.model.specs.declared.answers.Reply.{Reply}
 use Rattle.model.specs.declared.answers.Refusal.{Refusal}
-use Rattle.model.specs.State.{State, without, fresh}
-use Rattle.model.specs.Sound.{each, each-from, sets-within, messages-addressed, messages-booked, readers-placed, sound}
-use Rattle.model.specs.Steps.{counted, write, read, deliver, dropped, duplicated, halt, done, tests, refusal, step}
+use Rattle.model.specs.State.{State, fresh}
 use Rattle.model.specs.History.{Run, run, replies}
 use Rattle.model.proofs.Opened.{opened}
 

@@ -17,7 +17,7 @@ use Rattle.model.specs.declared.messages.Message.{Message}
 use Rattle.model.specs.declared.answers.Reply.{Reply}
 use Rattle.model.specs.Stamps.{rank}
 use Rattle.model.specs.State.{State, index, new-mark, reader, line, held, with-reader}
-use Rattle.model.specs.Records.{best, reading, heard, confirmed, placing, reader-freed, ended}
+use Rattle.model.specs.Records.{best, heard, confirmed, placing, reader-freed}
 use Rattle.model.specs.Deliveries.{Effect, quiet, sending, to-all, carried, in-first, in-second, counts, read-finishing, is-quick, after-have, on-have-at, on-have, after-last, on-back-ack-at, on-back-ack}
 use Rattle.model.specs.Steps.{settled}
 use Rattle.model.specs.History.{History}

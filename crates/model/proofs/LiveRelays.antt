@@ -17,7 +17,7 @@ use Rattle.model.specs.declared.reader.Reader.{Reader}
 use Rattle.model.specs.declared.marks.RelayMark.{RelayMark}
 use Rattle.model.specs.declared.messages.Message.{Message}
 use Rattle.model.specs.declared.answers.Reply.{Reply}
-use Rattle.model.specs.State.{State, Held, index, new-reader, new-mark, reader, line, mark-place, held, halted, with-messages, with-held}
+use Rattle.model.specs.State.{State, Held, index, new-reader, new-mark, reader, line, mark-place, held, with-messages, with-held}
 use Rattle.model.specs.Records.{took, lowered, reader-freed, marked, mark-replied}
 use Rattle.model.specs.Deliveries.{Effect, carried, answer, in-relay, counts, after-last, on-reply, on-relay-at, on-relay}
 use Rattle.model.specs.History.{History}

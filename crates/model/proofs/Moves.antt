@@ -9,7 +9,7 @@ use Rattle.quorum.specs.Sets.{Rule}
 use Rattle.quorum.specs.Laws.{Lawful}
 use Rattle.model.specs.declared.parties.Party.{Party}
 use Rattle.model.specs.State.{Held}
-use Rattle.model.proofs.World.{put-at, put-same, put-other, put-each, held, held-up, held-low, Op, World, Onward, onward-same, Later, Written, written-later, OpGood, Source, Core, op-later}
+use Rattle.model.proofs.World.{put-at, put-same, put-other, put-each, held, held-up, held-low, Op, World, Onward, onward-same, Later, Written, OpGood, Source, Core, op-later}
 
 -- Another call, and no more.
 abbrev pub ticked : {F : Type 0} → World F → World F

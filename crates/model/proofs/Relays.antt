@@ -20,7 +20,6 @@ use Rattle.model.specs.Stamps.{rank}
 use Rattle.model.specs.State.{State, Held, index, new-mark, reader, line, mark-place, held, with-held}
 use Rattle.model.specs.Records.{took, best, lowered, reader-freed, marked, mark-replied}
 use Rattle.model.specs.Deliveries.{Effect, carried, answer, in-relay, counts, read-finishing, after-last, on-reply-at, on-reply, on-relay-at, on-relay}
-use Rattle.model.specs.Steps.{counted}
 use Rattle.model.specs.History.{History}
 use Rattle.model.proofs.Sets.{none, joined-cases}
 use Rattle.model.proofs.Lists.{each-set-all}

@@ -20,9 +20,8 @@ use Rattle.model.specs.declared.answers.Reply.{Reply}
 use Rattle.model.specs.declared.answers.Refusal.{Refusal}
 use Rattle.model.specs.Stamps.{rank}
 use Rattle.model.specs.State.{State, unused, message, halted, without-message}
-use Rattle.model.specs.Records.{reading, ended}
 use Rattle.model.specs.Deliveries.{on, received}
-use Rattle.model.specs.Steps.{Outcome, declined, counted, outcome, deliver, done, Tests, tests, first-of, refusal, overfull, settled, step}
+use Rattle.model.specs.Steps.{Outcome, declined, outcome, deliver, done, Tests, tests, first-of, refusal, overfull, settled, step}
 use Rattle.model.specs.History.{History, event}
 use Rattle.model.proofs.Sets.{none}
 use Rattle.model.proofs.Lists.{all-without}

@@ -3,7 +3,7 @@ use mathlib.Core.Path.{_≡_, refl}
 use mathlib.Core.List.{List, [], _∷_, map}
 use mathlib.Core.Bool.{Bool, true, false}
 use Prim.Native.Nat.{ℕ}
-use Rattle.quorum.specs.Sets.{Rule, bits, joined, count}
+use Rattle.quorum.specs.Sets.{Rule}
 use Rattle.quorum.specs.Families.{count-rule}
 use Rattle.model.specs.declared.parties.Party.{Party}
 use Rattle.model.specs.declared.reader.Phase.{Phase}
@@ -17,9 +17,9 @@ use Rattle.model.specs.declared.journal.Operation.{Operation}
 use Rattle.model.specs.declared.calls.Call.{Call}
 use Rattle.model.specs.declared.answers.Reply.{Reply}
 use Rattle.model.specs.declared.answers.Refusal.{Refusal}
-use Rattle.model.specs.State.{State, without, new-replica, new-writer}
-use Rattle.model.specs.Sound.{each, each-from, sets-within, messages-addressed, messages-booked, readers-placed, sound}
-use Rattle.model.specs.Steps.{Outcome, declined, counted, write, read, deliver, dropped, duplicated, halt, done, tests, refusal, step}
+use Rattle.model.specs.State.{State, new-replica, new-writer}
+use Rattle.model.specs.Sound.{sound}
+use Rattle.model.specs.Steps.{Outcome, declined, step}
 use Rattle.model.proofs.Opened.{opened}
 
 abbrev three : Rule

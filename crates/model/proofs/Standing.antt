@@ -6,16 +6,14 @@ use mathlib.Core.List.{List, [], _∷_}
 use Prim.Native.Nat.{ℕ, zero, suc, _<_}
 use native.Mathlib.Omega.{arith}
 use lib.Dec.{T, eqb, ltb, eqb→eq, ltb→lt}
-use Rattle.quorum.specs.Sets.{bits, joined, count}
 use Rattle.quorum.specs.Families.{count-rule}
 use Rattle.model.specs.declared.messages.MessageKind.{MessageKind}
 use Rattle.model.specs.declared.journal.ReadKind.{ReadKind}
 use Rattle.model.specs.declared.messages.Message.{Message}
 use Rattle.model.specs.declared.calls.Call.{Call}
 use Rattle.model.specs.declared.answers.Reply.{Reply}
-use Rattle.model.specs.State.{Held, without, fresh}
-use Rattle.model.specs.Sound.{each, each-from, sets-within, messages-addressed, messages-booked, readers-placed, sound}
-use Rattle.model.specs.Steps.{counted, write, read, deliver, dropped, duplicated, halt, done, tests, refusal, step}
+use Rattle.model.specs.State.{Held, fresh}
+use Rattle.model.specs.Sound.{each}
 use Rattle.model.specs.History.{Event, History, run}
 use Rattle.model.specs.Claims.{At, In, Finished, Writes, Shows, Sent-put, Stamped, Belongs, Precedes, Row}
 use Rattle.model.proofs.Opened.{opened}

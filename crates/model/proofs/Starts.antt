@@ -20,11 +20,11 @@ use Rattle.model.specs.declared.messages.Message.{Message}
 use Rattle.model.specs.declared.journal.Operation.{Operation}
 use Rattle.model.specs.declared.calls.Call.{Call}
 use Rattle.model.specs.declared.answers.Reply.{Reply}
-use Rattle.model.specs.Stamps.{Stamp, rank, no-stamp}
+use Rattle.model.specs.Stamps.{rank, no-stamp}
 use Rattle.model.specs.State.{State, Held, index, unused, new-reader, new-mark, no-line, reader, line}
-use Rattle.model.specs.Records.{writing, best, reading, ended}
+use Rattle.model.specs.Records.{writing, best, reading}
 use Rattle.model.specs.Deliveries.{Effect}
-use Rattle.model.specs.Steps.{counted, next-number, to-write, write, opening-phase, opening-message, read, settled}
+use Rattle.model.specs.Steps.{next-number, to-write, write, opening-phase, opening-message, read}
 use Rattle.model.specs.History.{Event, History}
 use Rattle.model.specs.Claims.{Finishes}
 use Rattle.model.proofs.Sets.{none}

@@ -21,7 +21,7 @@ use Rattle.model.specs.declared.calls.Call.{Call}
 use Rattle.model.specs.declared.answers.Refusal.{Refusal}
 use Rattle.model.specs.Stamps.{rank}
 use Rattle.model.specs.State.{State, index, new-replica, new-reader, new-mark, no-line, replica, reader, line, with-messages}
-use Rattle.model.specs.Records.{writer-halted, reader-halted, one-sent, ended}
+use Rattle.model.specs.Records.{writer-halted, reader-halted, one-sent}
 use Rattle.model.specs.Deliveries.{Effect, quiet, on-query, on-fan}
 use Rattle.model.specs.Steps.{declined, counted, posted, dropped, duplicated, halt}
 use Rattle.model.specs.History.{Event, History}

@@ -16,10 +16,9 @@ use Rattle.model.specs.declared.replica.Replica.{Replica}
 use Rattle.model.specs.declared.reader.Reader.{Reader}
 use Rattle.model.specs.declared.messages.Message.{Message}
 use Rattle.model.specs.Stamps.{rank}
-use Rattle.model.specs.State.{State, Held, index, line, halted, with-writer}
+use Rattle.model.specs.State.{State, Held, index, line, with-writer}
 use Rattle.model.specs.Records.{acknowledged, writer-freed, replied-by, heard, lowered, one-more, ended}
 use Rattle.model.specs.Deliveries.{Effect, quiet, finish-event, finishing, written, on-put-ack, in-first, in-second, in-relay, counts, on}
-use Rattle.model.specs.Steps.{settled}
 use Rattle.model.specs.History.{History}
 use Rattle.model.proofs.Sets.{none, joined-cases}
 use Rattle.model.proofs.World.{held-from, World}

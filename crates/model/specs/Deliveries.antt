@@ -13,7 +13,6 @@ use Rattle.model.specs.declared.journal.ReadKind.{ReadKind}
 use Rattle.model.specs.declared.reader.Reader.{Reader}
 use Rattle.model.specs.declared.marks.RelayMark.{RelayMark}
 use Rattle.model.specs.declared.messages.Message.{Message}
-use Rattle.model.specs.declared.journal.Operation.{Operation}
 use Rattle.model.specs.declared.answers.Reply.{Reply}
 use Rattle.model.specs.State.{State, Held, index, unused, reader, line, mark, held, halted, with-writer, with-reader, with-mark, with-journal, with-held}
 use Rattle.model.specs.Records.{took, acknowledged, writer-freed, best, heard, confirmed, lowered, placing, reader-freed, marked, mark-replied, one-more, ended}
