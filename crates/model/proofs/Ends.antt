@@ -24,11 +24,10 @@ use Rattle.model.specs.State.{State, Held, new-reader, new-mark, no-line, line
 use Rattle.model.specs.Records.{one-more, ended}
 use Rattle.model.specs.Deliveries.{finish-event, finishing, on}
 use Rattle.model.specs.History.{Event, History}
-use Rattle.model.specs.Claims.{Finishes, delivering}
 use Rattle.model.proofs.Lists.{each-set, get-set}
 use Rattle.model.proofs.World.{put-same, put-other, put-each, Op, World, Onward, Later, OpGood}
 use Rattle.model.proofs.Moves.{changed, later-changed, core-changed, ended-op, onward-ended}
-use Rattle.model.proofs.Good.{code, apart-reader, current, Says, InPhase, Writing, LineGood, AtWork, Answers, Good, Kept, true-later, mark-later, messages-later, Still, phase-later, writing-later, line-later, advance}
+use Rattle.model.proofs.Good.{code, apart-reader, current, Says, InPhase, Writing, LineGood, AtWork, Answers, Closes, Good, Kept, true-later, mark-later, messages-later, Still, phase-later, writing-later, line-later, advance}
 use Rattle.model.proofs.Steps.{delivery, work-later}
 
 pub line-none : {F : Type 0} (w : World F) (o : Op) (l : Operation F) → o .stage ≡ 0 → LineGood w o l
@@ -144,8 +143,8 @@ module _ {F : Type 0} (q : Rule) (R : ℕ) (law : Lawful q) (start : F) (w : Wor
                 sent-says = subst (All (λ a. Says q R v₃ (a .kind) a)) (sym no-sent) tt;
               };
               begun = put-each (λ i o. 1 ≤ o .stage → (1 ≤ (w .ops i) .stage) ⊎ ((o .begun ≡ length h) × (ev .reply ≡ Reply.Started i))) (w .ops) j E (λ _. inl born) (λ i _ l. inl l);
-              ended = put-each (λ i o. 3 ≤ o .stage → (3 ≤ (w .ops i) .stage) ⊎ ((o .ended ≡ length h) × Finishes ev i (w .value (o .aim)))) (w .ops) j E
-                  (λ _. inr (g .now-is, (subst (λ c. delivering c ≡ true) (sym call-is) refl, (sent, exchanges, reply-is ∙ ap (λ y. Reply.Finished j (y .stamp) (y .figure) sent exchanges) value-is)))) (λ i _ l. inl l);
+              ended = put-each (λ i o. 3 ≤ o .stage → (3 ≤ (w .ops i) .stage) ⊎ ((o .ended ≡ length h) × Closes ev i (w .value (o .aim)))) (w .ops) j E
+                  (λ _. inr (g .now-is, (place, sent, exchanges, call-is, reply-is ∙ ap (λ y. Reply.Finished j (y .stamp) (y .figure) sent exchanges) value-is))) (λ i _ l. inl l);
             })
 
   -- Reader r finishes operation j.

@@ -221,8 +221,14 @@ module _ {F : Type 0} where
   abbrev pub BegunAt : History F → ℕ → ℕ → Type 0
   BegunAt h m j = (e : Event F) × At h m e × (e .reply ≡ Reply.Started j)
 
-  abbrev pub EndedAt : History F → ℕ → ℕ → Held F → Type 0
-  EndedAt h m j x = (e : Event F) × At h m e × Finishes e j x
+  -- The event finishes operation j with x.
+  abbrev pub Closes : Event F → ℕ → Held F → Type 0
+  Closes e j x =
+      (place : ℕ) × (sent : ℕ) × (exchanges : ℕ) × (e .call ≡ Call.Deliver place)
+      × (e .reply ≡ Reply.Finished j (x .stamp) (x .figure) sent exchanges)
+
+  pub closed-at : (h : History F) (m : ℕ) (e : Event F) (j : ℕ) (x : Held F) → At h m e → Closes e j x → Finishes h m j x
+  closed-at h m e j x a c = (e, c .0, c .1, c .2, a, c .3, c .4)
 
   module _ (q : Rule) (R : ℕ) (start : F) where
     pub record Good (w : World F) (s : State F) (h : History F) : Type 0 where
@@ -244,7 +250,7 @@ module _ {F : Type 0} where
       pub at-work : (j : ℕ) → AtWork (s .start) (s .writer .operation) (s .readers) j (w .ops j)
       pub told : (m : ℕ) (e : Event F) → At h m e → Told q R w m e
       pub begun : (j : ℕ) → 1 ≤ (w .ops j) .stage → BegunAt h ((w .ops j) .begun) j
-      pub ended : (j : ℕ) → 3 ≤ (w .ops j) .stage → EndedAt h ((w .ops j) .ended) j (shown w j)
+      pub ended : (j : ℕ) → 3 ≤ (w .ops j) .stage → Finishes h ((w .ops j) .ended) j (shown w j)
 
     -- After an effect, before what it sends joins the other messages.
     pub record Kept (h : History F) (of : Effect F → Event F) (e : Effect F) : Type 0 where
@@ -436,7 +442,7 @@ module _ {F : Type 0} where
         pub at-work : (j : ℕ) → AtWork (s .start) (s .writer .operation) (s .readers) j (v .ops j)
         pub told : Told q R v (length h) e
         pub begun : (j : ℕ) → 1 ≤ (v .ops j) .stage → (1 ≤ (w .ops j) .stage) ⊎ (((v .ops j) .begun ≡ length h) × (e .reply ≡ Reply.Started j))
-        pub ended : (j : ℕ) → 3 ≤ (v .ops j) .stage → (3 ≤ (w .ops j) .stage) ⊎ (((v .ops j) .ended ≡ length h) × Finishes e j (shown v j))
+        pub ended : (j : ℕ) → 3 ≤ (v .ops j) .stage → (3 ≤ (w .ops j) .stage) ⊎ (((v .ops j) .ended ≡ length h) × Closes e j (shown v j))
 
       pub advance : (s s′ : State F) (h : History F) (e : Event F) → Good w s h → Gives s′ h e → Good v s′ (h ++ e ∷ [])
       advance s s′ h e g n = record {
@@ -469,7 +475,7 @@ module _ {F : Type 0} where
               let b = g .ended j o in
               let a = up .ops-up j .same-aim (omega arith) in
               let k : shown v j ≡ shown w j = ap (v .value) a ∙ up .same-value ((w .ops j) .aim) (g .core .op j .aim-written (omega arith) .low) in
-              rw (up .ops-up j .same-ended o) (b .0, at-old h e ((w .ops j) .ended) (b .0) (b .1), subst (Finishes (b .0) j) (sym k) (b .2))
-          | inr d ↦ rw (d .0) (e, at-new h e, d .1)
+              rw (up .ops-up j .same-ended o) (subst (Finishes (h ++ e ∷ []) ((w .ops j) .ended) j) (sym k) (b .0, b .1, b .2, b .3, at-old h e ((w .ops j) .ended) (b .0) (b .4), b .5, b .6))
+          | inr d ↦ rw (d .0) (closed-at (h ++ e ∷ []) (length h) e j (shown v j) (at-new h e) (d .1))
         ];
       }

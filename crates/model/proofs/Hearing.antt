@@ -21,12 +21,11 @@ use Rattle.model.specs.Records.{best, heard, confirmed, placing, reader-freed}
 use Rattle.model.specs.Deliveries.{Effect, quiet, sending, to-all, carried, in-first, in-second, counts, read-finishing, is-quick, after-have, on-have-at, on-have, after-last, on-back-ack-at, on-back-ack}
 use Rattle.model.specs.Steps.{settled}
 use Rattle.model.specs.History.{History}
-use Rattle.model.specs.Claims.{Finishes}
 use Rattle.model.proofs.Sets.{none, joined-cases}
 use Rattle.model.proofs.Lists.{each-set-all, all-to-all}
 use Rattle.model.proofs.World.{put-same, put-each, held-from, not-held, Op, World, Onward, Later}
 use Rattle.model.proofs.Moves.{ticked, later-ticked, changed, later-changed, core-changed, onward-settled, good-settled, good-quick, good-ended}
-use Rattle.model.proofs.Good.{current, Ack, Report, Says, First, Second, InPhase, LineGood, AtWork, Good, Kept, true-later, mark-later, messages-later, phase-later, line-later, advance}
+use Rattle.model.proofs.Good.{current, Ack, Report, Says, First, Second, InPhase, LineGood, AtWork, Closes, Good, Kept, true-later, mark-later, messages-later, phase-later, line-later, advance}
 use Rattle.model.proofs.Steps.{delivery, same-current, work-later, old-messages, old-reader, old-writer, old-figures, ticks, kept-quiet}
 use Rattle.model.proofs.World as world
 use Rattle.model.proofs.Moves as moves
@@ -132,7 +131,7 @@ module _ {F : Type 0} (q : Rule) (R : ℕ) (law : Lawful q) (start : F) (w : Wor
                 (λ c l. record { settled = omega (arith, ap (λ y. y .stage) here); aims = sym (ap (λ y. y .aim) here); true-figure = true-later q R start w v₄ up₄ (x .true-figure); to-low = l });
           };
           begun = put-each (λ i o. 1 ≤ o .stage → (1 ≤ (w .ops i) .stage) ⊎ ((o .begun ≡ length h) × (_≡_ {A = Reply F} Reply.Done (Reply.Started i)))) (w .ops) j o₄ (λ _. inl (omega (arith, x .stage-is))) (λ i _ l. inl l);
-          ended = put-each (λ i o. 3 ≤ o .stage → (3 ≤ (w .ops i) .stage) ⊎ ((o .ended ≡ length h) × Finishes (delivery place taken goes) i (w .value (o .aim)))) (w .ops) j o₄ (λ l. absurd (omega arith)) (λ i _ l. inl l);
+          ended = put-each (λ i o. 3 ≤ o .stage → (3 ≤ (w .ops i) .stage) ⊎ ((o .ended ≡ length h) × Closes (delivery place taken goes) i (w .value (o .aim)))) (w .ops) j o₄ (λ l. absurd (omega arith)) (λ i _ l. inl l);
         });
       }
 

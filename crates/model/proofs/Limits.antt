@@ -8,30 +8,16 @@ use lib.ListN.{length, length-replicate}
 use Rattle.std.proofs.shelf.Lists.{getD-past}
 use Rattle.std.proofs.shelf.Tests.{cases-lt}
 use Rattle.quorum.specs.Sets.{Rule}
+use Rattle.model.specs.declared.parties.Party.{Party}
+use Rattle.model.specs.declared.journal.OperationKind.{OperationKind}
 use Rattle.model.specs.declared.journal.Operation.{Operation}
 use Rattle.model.specs.declared.calls.Call.{Call}
 use Rattle.model.specs.State.{State, no-line, new-mark, new-reader, fresh, line}
 use Rattle.model.specs.Steps.{Outcome, step}
 use Rattle.model.specs.History.{Event, History, event, Grows, begun, more}
-use Rattle.model.specs.Claims.{At, Starts, Uncopied, of-operation, sent-for, limit, Limits}
-use Rattle.model.proofs.Spending.{line-limit, remaining, Copies-none, Shaped, Stepped, step-stepped}
-
--- One more event
-
-at-old : {A : Type 0} (l : List A) (x : A) (m : ℕ) (y : A) → At l m y → At (l ++ x ∷ []) m y
-at-old [] x m y s = absurd s
-at-old (z ∷ l) x zero y s = s
-at-old (z ∷ l) x (suc m) y s = at-old l x m y s
-
-at-new : {A : Type 0} (l : List A) (x : A) → At (l ++ x ∷ []) (length l) x
-at-new [] x = refl
-at-new (z ∷ l) x = at-new l x
-
-at-cases : {A : Type 0} (l : List A) (x : A) (m : ℕ) (y : A) → At (l ++ x ∷ []) m y → At l m y ⊎ (x ≡ y)
-at-cases [] x zero y s = inr s
-at-cases [] x (suc m) y s = absurd s
-at-cases (z ∷ l) x zero y s = inl s
-at-cases (z ∷ l) x (suc m) y s = at-cases l x m y s
+use Rattle.model.specs.Claims.{At, asked, Starts, Uncopied, of-operation, sent-for, limit, Limits}
+use Rattle.model.proofs.Lists.{at-old, at-new, at-cases}
+use Rattle.model.proofs.Spending.{remaining, Copies-none, Shaped, Stepped, step-stepped}
 
 module _ {F : Type 0} where
   sent-for-more : (n : ℕ) (h : History F) (e : Event F) → sent-for n (h ++ e ∷ []) ≡ sent-for n h + of-operation n (e .sent)
@@ -45,10 +31,10 @@ module _ {F : Type 0} where
     past : (n : ℕ) → length (s .journal) < n → sent-for n h ≡ 0
     counts : (n : ℕ) → 1 ≤ n → n ≤ length (s .journal) → (line s n) .sent ≡ min (sent-for n h) 65535
     -- an operation that started has a line of the kind that its call says
-    known : (n m : ℕ) (e : Event F) → At h m e → Starts e n
-        → (1 ≤ n) × (n ≤ length (s .journal)) × (limit (rule .size) (e .call) ≡ line-limit (rule .size) ((line s n) .kind))
+    known : (m n : ℕ) (p : Party) (k : OperationKind) → Starts h m n p k
+        → (1 ≤ n) × (n ≤ length (s .journal)) × ((line s n) .kind ≡ k)
     -- what was sent for an operation, and what may still be sent, is within its limit
-    within : (n : ℕ) → 1 ≤ n → n ≤ length (s .journal) → Uncopied h n → sent-for n h + remaining rule s n ≤ line-limit (rule .size) ((line s n) .kind)
+    within : (n : ℕ) → 1 ≤ n → n ≤ length (s .journal) → Uncopied h n → sent-for n h + remaining rule s n ≤ limit (rule .size) ((line s n) .kind)
 
   fresh-accounted : (rule : Rule) (start : F) (readers message-room journal-room : ℕ) → Accounted rule [] (fresh rule start readers message-room journal-room)
   unfolding fresh sent-for
@@ -56,7 +42,7 @@ module _ {F : Type 0} where
     shape = length-replicate (rule .size * readers) new-mark ∙ ap (λ (k : ℕ). rule .size * k) (sym (length-replicate readers (new-reader start)));
     past = λ n h. refl;
     counts = λ n b h. absurd (omega arith);
-    known = λ n m e a i. absurd a;
+    known = λ m n p k i. absurd (i .1);
     within = λ n b h u. absurd (omega arith);
   }
 
@@ -70,21 +56,18 @@ module _ {F : Type 0} where
           omega (arith, sent-for-more n h (event c o), t .counts n b i, g .past n new)
       | inr old ↦ omega (arith, sent-for-more n h (event c o), t .counts n b i, g .counts n b old)
     ];
-    known = λ n m e a i. elim (at-cases h (event c o) m e a) [
+    known = λ m n p kind i. elim (at-cases h (event c o) m (i .0) (i .1)) [
       | inl old ↦
-          let k = g .known n m e old i in
-          (k .0, omega (arith, t .more-lines), k .2 ∙ ap (line-limit (rule .size)) (sym (t .kind-kept n (k .0) (k .1))))
-      | inr new ↦
-          let j : Starts (event c o) n = subst (λ (x : Event F). Starts x n) (sym new) i in
-          let k = t .starts n (j .0) (j .1) in
-          (k .0, k .1, ap (λ (x : Event F). limit (rule .size) (x .call)) (sym new) ∙ k .2)
+          let k = g .known m n p kind (i .0, old, i .2, i .3) in
+          (k .0, omega (arith, t .more-lines), t .kind-kept n (k .0) (k .1) ∙ k .2)
+      | inr new ↦ t .starts n p kind (ap (λ (x : Event F). asked (x .call)) (new .1) ∙ i .2) (ap (λ (x : Event F). x .reply) (new .1) ∙ i .3)
     ];
     within = λ n b i u. elim (cases-lt (length (s .journal)) n) [
       | inl new ↦ omega (arith, sent-for-more n h (event c o), g .past n new, t .opens n new i)
       | inr old ↦
           let older : Uncopied h n = λ m place e a at call taken op. u m place e a (at-old h (event c o) m e at) call taken op in
           let none : Copies-none n c o = λ place a call taken op. u (length h) place (event c o) a (at-new h (event c o)) call taken op in
-          let same = ap (line-limit (rule .size)) (t .kind-kept n b old) in
+          let same = ap (limit (rule .size)) (t .kind-kept n b old) in
           omega (arith, sent-for-more n h (event c o), g .within n b old older, t .spends n b old none)
     ];
   }
@@ -99,9 +82,9 @@ module _ {F : Type 0} where
   limits : (rule : Rule) (h : History F) (s : State F) → Accounted rule h s → Limits rule h s
   limits rule h s g = record {
     true-counts = g .counts;
-    bounded = λ n m e a i u.
-        let k = g .known n m e a i in
-        omega (arith, g .counts n (k .0) (k .1), g .within n (k .0) (k .1) u);
+    bounded = λ m n p kind i u.
+        let k = g .known m n p kind i in
+        omega (arith, g .counts n (k .0) (k .1), g .within n (k .0) (k .1) u, ap (limit (rule .size)) (k .2));
   }
 
 -- Every history of every rule keeps the limits, whatever the figures.

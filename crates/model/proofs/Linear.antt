@@ -15,12 +15,13 @@ use Rattle.model.specs.declared.answers.Reply.{Reply}
 use Rattle.model.specs.Stamps.{rank}
 use Rattle.model.specs.State.{State, Held, unused}
 use Rattle.model.specs.History.{Event, History, Grows}
-use Rattle.model.specs.Claims.{At, In, Once, Before, Finishes, Row, Finished, Belongs, Precedes, Sent-put, Writes, Reads, Shows, Plays, Finished-with}
+use Rattle.model.specs.Claims.{In, Once, Before, Precedes, Shows, Numbered, Belongs, Plays, Row}
 use Rattle.model.proofs.Lists.{all-in}
 use Rattle.model.proofs.Rows.{Pairwise, pairwise-weaker, either-way, at-before, Le, arrange, arranged, arranges, once-arrange, le-arrange, Fits, Source, Ready, row-plays}
 use Rattle.model.proofs.World.{held, Op, World}
 use Rattle.model.proofs.Good.{Says, Ends, Opens, Begins, Answers, shown, Good}
 use Rattle.model.proofs.Run.{reached}
+use Rattle.model.proofs.Tellings.{ends-at, begins-at, writes, shows, write-is, read-is, numbered}
 
 -- Some number up to n passes.
 some : (ℕ → Bool) → ℕ → Bool
@@ -191,103 +192,44 @@ module _ {F : Type 0} (q : Rule) (R : ℕ) (law : Lawful q) (start : F) (w : Wor
     source = source;
   }
 
-  -- What the history says of an operation
-
-  answers-at : (m : ℕ) (e : Event F) (r : Reply F) → At h m e → e .reply ≡ r → Answers w m (e .call) (e .sent) r
-  answers-at m e r a d = subst (Answers w m (e .call) (e .sent)) d (g .told m e a .answers)
-
-  ends-at : (m : ℕ) (e : Event F) (n : ℕ) (x : Held F) → At h m e → Finishes e n x → Ends w m n x
-  ends-at m e n x a f = answers-at m e (Reply.Finished n (x .stamp) (x .figure) (f .1 .0) (f .1 .1)) a (f .1 .2)
-
-  begins-at : (m : ℕ) (e : Event F) (n : ℕ) → At h m e → e .reply ≡ Reply.Started n → Begins w m n (e .call) (e .sent)
-  begins-at m e n a d = answers-at m e (Reply.Started n) a d
-
-  puts-aim : (n : ℕ) (a : Message F) → Sent-put h n a → (rank (a .stamp) ≡ (op n) .aim) × (a .stamp ≡ (shown w n) .stamp)
-  puts-aim n a p =
-      let sent = p .0 in
-      let says = all-in (λ y. Says q R w (y .kind) y) (sent .1 .sent) a (g .told (sent .0) (sent .1) (sent .2) .sent-says) (sent .3) in
-      let store = subst (λ k. Says q R w k a) (p .1) says in
-      let aims = store .aims ∙ ap (λ i. (op i) .aim) (p .2) in
-      (aims, ap (λ y. y .stamp) (store .true-figure .is ∙ ap (w .value) aims))
-
-  write-shown : (n m : ℕ) (e : Event F) → At h m e → e .reply ≡ Reply.Started n → (op n) .reading ≡ false → (c : Call F) → e .call ≡ c → Opens w n c (e .sent) → Writes h n (shown w n)
-  write-shown n m e a d r (Call.Write f) i o =
-      let p = o .puts in
-      (m, e, a, i ∙ ap (λ y. Call.Write y) (sym (o .figure-is)), d, ((p .0, ((m, e, a, p .1), p .2, p .3)), λ b i. puts-aim n b i .1))
-  write-shown n m e a d r (Call.Read k kind) i o = absurd (both-ways ((op n) .reading) r (o .reads))
-  write-shown n m e a d r (Call.Deliver p) i o = absurd o
-  write-shown n m e a d r (Call.Drop p) i o = absurd o
-  write-shown n m e a d r (Call.Duplicate p) i o = absurd o
-  write-shown n m e a d r (Call.Halt p) i o = absurd o
-
-  writes : (n : ℕ) → 1 ≤ (op n) .stage → (op n) .reading ≡ false → Writes h n (shown w n)
-  writes n b r =
-      let s = g .begun n b in
-      write-shown n ((op n) .begun) (s .0) (s .1) (s .2) r (s .0 .call) refl (begins-at _ (s .0) n (s .1) (s .2) .opens)
-
-  read-shown : (n m : ℕ) (e : Event F) → At h m e → e .reply ≡ Reply.Started n → (op n) .reading ≡ true → (c : Call F) → e .call ≡ c → Opens w n c (e .sent) → Reads h n
-  read-shown n m e a d r (Call.Write f) i o = absurd (both-ways ((op n) .reading) (o .writes) r)
-  read-shown n m e a d r (Call.Read k kind) i o = (m, e, k, kind, a, i, d)
-  read-shown n m e a d r (Call.Deliver p) i o = absurd o
-  read-shown n m e a d r (Call.Drop p) i o = absurd o
-  read-shown n m e a d r (Call.Duplicate p) i o = absurd o
-  read-shown n m e a d r (Call.Halt p) i o = absurd o
-
-  shows : (n : ℕ) → 3 ≤ (op n) .stage → (op n) .reading ≡ true → Shows h n (shown w n)
-  shows n l r =
-      let s = g .begun n (omega arith) in
-      let f = g .ended n l in
-      (read-shown n ((op n) .begun) (s .0) (s .1) (s .2) r (s .0 .call) refl (begins-at _ (s .0) n (s .1) (s .2) .opens), ((op n) .ended, f .0, f .1, f .2))
-
-  -- And conversely.
-
-  write-is : (n : ℕ) (x : Held F) → Writes h n x → (1 ≤ (op n) .stage) × ((op n) .reading ≡ false) × (rank (x .stamp) ≡ (op n) .aim)
-  write-is n x v =
-      let b = begins-at (v .0) (v .1) n (v .2) (v .4) in
-      let o = subst (λ c. Opens w n c (v .1 .sent)) (v .3) (b .opens) in
-      let p = v .5 .0 in
-      (b .stage-is, o .writes, ap rank (sym (v .5 .1 (p .0) (p .1))) ∙ puts-aim n (p .0) (p .1) .0)
-
-  read-is : (n : ℕ) → Reads h n → (op n) .reading ≡ true
-  read-is n v = let b = begins-at (v .0) (v .1) n (v .4) (v .6) in subst (λ c. Opens w n c (v .1 .sent)) (v .5) (b .opens) .reads
-
-  finished-is : (n : ℕ) (x : Held F) → Finished-with h n x → Ends w ((op n) .ended) n x
-  finished-is n x f = let y = ends-at (f .0) (f .1) n x (f .2) (f .3) in record { stage-is = y .stage-is; ended-is = refl; aim-is = y .aim-is; value-is = y .value-is }
-
   plays : Plays h (unused start) row
   plays = subst (λ y. Plays h y row) (g .first-value)
       (row-plays reads-of aim-of h (w .value) 0 row ready
-      (λ n i r. writes n (omega (arith, in-row n i .settled)) r)
-      (λ n i r. elim (in-row n i .why) [ inl l ↦ shows n l r | inr f ↦ absurd (both-ways ((op n) .reading) (f .1) r) ]))
+      (λ n i r. writes q R law start w s h g n (omega (arith, in-row n i .settled)) r)
+      (λ n i r. elim (in-row n i .why) [ inl l ↦ shows q R law start w s h g n l r | inr f ↦ absurd (both-ways ((op n) .reading) (f .1) r) ]))
 
   only : (n : ℕ) → In n row → Belongs h n
   only n i =
       let k = in-row n i in
       elim (k .why) [
-        | inl l ↦ let f = g .ended n l in inl (shown w n, ((op n) .ended, f .0, f .1, f .2))
+        | inl l ↦ inl ((op n) .ended, shown w n, g .ended n l)
         | inr r ↦
             let j = r .2 in
             inr (
-              (λ f. let y = finished-is n (f .0) (f .1) in omega (arith, y .stage-is, r .0)),
-              (shown w n, writes n (omega (arith, k .settled)) (r .1), (j .0, subst (λ t. Shows h (j .0) (w .value t)) (j .3) (shows (j .0) (j .1) (j .2)))),
+              (λ f. let y = ends-at q R law start w s h g (f .0) n (f .1) (f .2) in omega (arith, y .stage-is, r .0)),
+              (
+                shown w n,
+                writes q R law start w s h g n (omega (arith, k .settled)) (r .1),
+                (j .0, subst (λ t. Shows h (j .0) (w .value t)) (j .3) (shows q R law start w s h g (j .0) (j .1) (j .2))),
+              ),
             )
       ]
 
   every : (n : ℕ) → Belongs h n → In n row
-  every n (inl f) = let y = finished-is n (f .0) (f .1) in to-row n (omega (arith, y .stage-is)) (keep-over n (y .stage-is))
+  every n (inl f) = let y = ends-at q R law start w s h g (f .0) n (f .1) (f .2) in to-row n (omega (arith, y .stage-is)) (keep-over n (y .stage-is))
   every n (inr d) =
       let x = d .1 .0 in
-      let v = write-is n x (d .1 .1) in
+      let v = write-is q R law start w s h g n x (d .1 .1) in
       let i = d .1 .2 .0 in
       let sh = d .1 .2 .1 in
-      let y = finished-is i x (sh .1) in
-      to-row n (v .0) (keep-seen n i (v .0) (v .1) (y .stage-is) (read-is i (sh .0)) (y .aim-is ∙ v .2))
+      let y = ends-at q R law start w s h g (sh .1 .0) i x (sh .1 .1) in
+      to-row n (v .0) (keep-seen n i (v .0) (v .1) (y .stage-is) (read-is q R law start w s h g i x sh) (y .aim-is ∙ v .2))
 
   in-time : (i j : ℕ) → In i row → In j row → Precedes h i j → Before i j row
   in-time i j p r v =
-      let x = ends-at (v .0) (v .2) i (v .4) (v .5) (v .6) in
-      let y = begins-at (v .1) (v .3) j (v .7) (v .8 .1) in
-      let l = v .9 in
+      let x = ends-at q R law start w s h g (v .0) i (v .2) (v .5) in
+      let y = begins-at q R law start w s h g (v .1) (v .6 .0) j (v .6 .1) (v .6 .3) in
+      let l = v .7 in
       let e = g .core .op i .ended-after (x .stage-is) in
       let o = g .core .op i .kept-since (x .stage-is) in
       elim (either-way row i j (λ d. omega (arith, x .ended-is, y .begun-is, ap (λ z. (op z) .begun) d)) p r) [
@@ -297,6 +239,11 @@ module _ {F : Type 0} (q : Rule) (R : ℕ) (law : Lawful q) (start : F) (w : Wor
 
   pub in-a-row : Row start h
   in-a-row = record { row = row; once = once; only = only; every = every; in-time = in-time; plays = plays }
+
+pub numbers : (F : Type 0) (rule : Rule) → Lawful rule → (start : F) (h : History F) (s : State F) → Grows rule start h s → Numbered h s
+numbers F rule law start h s grows =
+    let k = reached rule law start h s grows in
+    numbered rule (k .readers) law start (k .known .world) s h (k .known .good)
 
 pub rows : (F : Type 0) (rule : Rule) → Lawful rule → (start : F) (h : History F) (s : State F) → Grows rule start h s → Row start h
 rows F rule law start h s grows =

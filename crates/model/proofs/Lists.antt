@@ -1,5 +1,5 @@
 -- Lists as tables.
-use mathlib.Core.Path.{_≡_, refl, sym, ap, subst}
+use mathlib.Core.Path.{_≡_, refl, sym, ap, _∙_, subst}
 use mathlib.Core.Logic.{_⊎_, inl, inr}
 use mathlib.Core.List.{List, [], _∷_, _++_}
 use Prim.Native.Nat.{ℕ, zero, suc, _<_, _≤_}
@@ -73,6 +73,11 @@ module _ {A : Type 0} where
   at-cases [] x (suc m) y s = absurd s
   at-cases (z ∷ l) x zero y s = inl s
   at-cases (z ∷ l) x (suc m) y s = elim (at-cases l x m y s) [ inl o ↦ inl o | inr n ↦ inr (ap suc (n .0), n .1) ]
+
+  pub at-same : (l : List A) (m : ℕ) (x y : A) → At l m x → At l m y → x ≡ y
+  at-same [] m x y a b = absurd a
+  at-same (z ∷ l) zero x y a b = sym a ∙ b
+  at-same (z ∷ l) (suc m) x y a b = at-same l m x y a b
 
   pub all-without : (P : A → Type 0) (l : List A) (i : ℕ) → All P l → All P (without l i)
   unfolding without

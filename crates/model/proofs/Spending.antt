@@ -35,15 +35,23 @@ use Rattle.model.specs.Records.{one-sent, reading, reader-halted, writing, wri
 use Rattle.model.specs.Sound.{each, each-from, addressed, suits, booked, placed, in-journal, messages-addressed, messages-booked, readers-placed, sets-within, sound, is-round-read, is-relay-read}
 use Rattle.model.specs.Deliveries.{Effect, to-all, in-first, received}
 use Rattle.model.specs.Steps.{Outcome, declined, counted, posted, outcome, next-number, to-write, write, opening-phase, opening-message, read, deliver, dropped, duplicated, halt, done, tests, first-of, refusal, overfull, settled, step, no-place}
-use Rattle.model.specs.Claims.{In, starting, of-operation, read-limit, limit}
+use Rattle.model.specs.Claims.{In, asked, of-operation, limit}
 use Rattle.model.proofs.Totals.{set-below, weight, only-same, only-other, load, load-append, load-without, of-operation-to-all, load-to-all, Of, all-to-all, of-operation-none, load-none, load-past, Lines-kept, counted-length, counted-keeps, counted-sent}
 use Rattle.model.proofs.Reserve.{pending, unreplied, reserve, unreplied-most, reserve-below}
 use Rattle.model.proofs.Handlers.{reserved, Handled, received-handled}
 
--- The most messages of an operation, by its line.
-abbrev pub line-limit : ℕ → OperationKind → ℕ
-line-limit size OperationKind.Write = 2 * size
-line-limit size (OperationKind.Read kind) = read-limit size kind
+-- What a call asks for
+
+abbrev kind-asked : Option (Party × OperationKind) → OperationKind
+kind-asked (Some x) = x .1
+kind-asked None = OperationKind.Write
+
+abbrev is-asked : Option (Party × OperationKind) → Bool
+is-asked (Some x) = true
+is-asked None = false
+
+not-asked : (x : Party × OperationKind) → None ≡ Some x → ⊥
+not-asked x e = both-ways false refl (ap is-asked e)
 
 -- Tests of every item of a list
 
@@ -83,9 +91,9 @@ module _ {F : Type 0} where
     pub kind-kept : (n : ℕ) → 1 ≤ n → n ≤ length (s .journal) → (line (o .next) n) .kind ≡ (line s n) .kind
     pub counts : (n : ℕ) → 1 ≤ n → n ≤ length (o .next .journal) → (line (o .next) n) .sent ≡ min ((line s n) .sent + of-operation n (o .sent)) 65535
     pub spends : (n : ℕ) → 1 ≤ n → n ≤ length (s .journal) → Copies-none n c o → of-operation n (o .sent) + remaining rule (o .next) n ≤ remaining rule s n
-    pub opens : (n : ℕ) → length (s .journal) < n → n ≤ length (o .next .journal) → of-operation n (o .sent) + remaining rule (o .next) n ≤ line-limit (rule .size) ((line (o .next) n) .kind)
-    pub starts : (n : ℕ) → starting c ≡ true → o .reply ≡ Reply.Started n
-        → (1 ≤ n) × (n ≤ length (o .next .journal)) × (limit (rule .size) c ≡ line-limit (rule .size) ((line (o .next) n) .kind))
+    pub opens : (n : ℕ) → length (s .journal) < n → n ≤ length (o .next .journal) → of-operation n (o .sent) + remaining rule (o .next) n ≤ limit (rule .size) ((line (o .next) n) .kind)
+    pub starts : (n : ℕ) (p : Party) (k : OperationKind) → asked c ≡ Some (p, k) → o .reply ≡ Reply.Started n
+        → (1 ≤ n) × (n ≤ length (o .next .journal)) × ((line (o .next) n) .kind ≡ k)
 
   -- Tables that are sound
 
@@ -123,7 +131,7 @@ module _ {F : Type 0} where
   module _ (rule : Rule) (s : State F) (shaped : Shaped rule s) (small : (n : ℕ) → 1 ≤ n → n ≤ length (s .journal) → (line s n) .sent ≤ 65535) where
     silent : (c : Call F) (reply : Reply F) (taken : List (Message F)) (w : Writer) (replicas : List (Replica F)) (readers : List (Reader F)) (messages : List (Message F))
         → length readers ≡ length (s .readers)
-        → ((n : ℕ) → starting c ≡ true → reply ≡ Reply.Started n → ⊥)
+        → ((n : ℕ) (p : Party) (k : OperationKind) → asked c ≡ Some (p, k) → reply ≡ Reply.Started n → ⊥)
         → ((n : ℕ) → 1 ≤ n → ((place : ℕ) (a : Message F) → c ≡ Call.Duplicate place → In a taken → a .operation ≡ n → ⊥)
         → load (rule .size) n messages + reserved rule s n readers (s .marks) ≤ remaining rule s n)
         → Stepped rule s c (record { reply = reply; taken = taken; sent = []; next = silent-state s w replicas readers messages })
@@ -136,39 +144,39 @@ module _ {F : Type 0} where
       counts = λ n b h. omega (arith, small n b h);
       spends = λ n b h u. omega (arith, less n b u);
       opens = λ n b h. absurd (omega arith);
-      starts = λ n b e. absurd (not-started n b e);
+      starts = λ n p k b e. absurd (not-started n p k b e);
     }
 
     declined-stepped : (c : Call F) (e : Refusal) → Stepped rule s c (declined s e)
     declined-stepped c e = silent c (Reply.Declined e) [] (s .writer) (s .replicas) (s .readers) (s .messages) refl
-        (λ n b i. let z : _≡_ {A = ℕ} 0 1 = cc in omega arith) (λ n b u. omega arith)
+        (λ n p k b i. let z : _≡_ {A = ℕ} 0 1 = cc in omega arith) (λ n b u. omega arith)
 
     dropped-stepped : (place : ℕ) → place < length (s .messages) → Stepped rule s (Call.Drop place) (dropped s place)
     unfolding dropped
     dropped-stepped place h = silent (Call.Drop place) Reply.Done (message s place ∷ []) (s .writer) (s .replicas) (s .readers) (without (s .messages) place) refl
-        (λ n b i. both-ways false refl b)
+        (λ n p k b i. not-asked (p, k) b)
         (λ n b u. omega (arith, load-without (rule .size) n (s .messages) place (no-message (s .start)) h))
 
     duplicated-stepped : (place : ℕ) → Stepped rule s (Call.Duplicate place) (duplicated s place)
     unfolding duplicated load
     duplicated-stepped place = silent (Call.Duplicate place) Reply.Done (message s place ∷ []) (s .writer) (s .replicas) (s .readers) (s .messages ++ message s place ∷ []) refl
-        (λ n b i. both-ways false refl b)
+        (λ n p k b i. not-asked (p, k) b)
         (λ n b u. omega (arith, load-append (rule .size) n (s .messages) (message s place ∷ []), only-other n ((message s place) .operation) (weight (rule .size) ((message s place) .kind)) (u place (message s place) refl (inl refl))))
 
     halt-stepped : (p : Party) → Stepped rule s (Call.Halt p) (halt s p)
     unfolding halt
     halt-stepped Party.Writer = silent (Call.Halt Party.Writer) Reply.Done [] (writer-halted (s .writer)) (s .replicas) (s .readers) (s .messages) refl
-        (λ n b i. both-ways false refl b) (λ n b u. omega arith)
+        (λ n p k b i. not-asked (p, k) b) (λ n b u. omega arith)
     halt-stepped (Party.Reader r) = silent (Call.Halt (Party.Reader r)) Reply.Done [] (s .writer) (s .replicas) (set (s .readers) r (reader-halted (reader s r))) (s .messages)
         (length-set (s .readers) r (reader-halted (reader s r)))
-        (λ n b i. both-ways false refl b)
+        (λ n p k b i. not-asked (p, k) b)
         (λ n b u.
         let e = ap (λ (w : ℕ). unreplied n w (index ((line s n) .owner)) (rule .size) (s .marks)) (length-set (s .readers) r (reader-halted (reader s r))) in
         let below = reserve-below (is-round-read ((line s n) .kind)) (is-relay-read ((line s n) .kind)) _ _ _ _
         (set-below (pending (rule .size) n) (s .readers) r (reader-halted (reader s r)) (new-reader (s .start)) (omega arith) (index ((line s n) .owner))) (le-of-eq e) in
         omega arith)
     halt-stepped (Party.Replica c) = silent (Call.Halt (Party.Replica c)) Reply.Done [] (s .writer) (set (s .replicas) c (replica-halted (replica s c))) (s .readers) (s .messages) refl
-        (λ n b i. both-ways false refl b) (λ n b u. omega arith)
+        (λ n p k b i. not-asked (p, k) b) (λ n b u. omega arith)
 
     -- A delivery
 
@@ -210,7 +218,7 @@ module _ {F : Type 0} where
           let taken = load-without (rule .size) n (s .messages) place (no-message (s .start)) h in
           omega arith;
       opens = λ n b i. absurd (omega (arith, many));
-      starts = λ n b i. absurd (both-ways false refl b);
+      starts = λ n p k b i. absurd (not-asked (p, k) b);
     }
       where
         m : Message F
@@ -258,7 +266,7 @@ module _ {F : Type 0} where
     module _ (parts : Sound-parts rule s) (w : Writer) (readers : List (Reader F)) (o : Operation F) (kind : MessageKind) (from : Party) (x : Held F)
         (wide : length readers ≡ length (s .readers))
         (none-sent : o .sent ≡ 0)
-        (worth : rule .size + rule .size * weight (rule .size) kind + (cond (is-round-read (o .kind)) (2 * rule .size) 0 + cond (is-relay-read (o .kind)) (rule .size) 0) ≤ line-limit (rule .size) (o .kind))
+        (worth : rule .size + rule .size * weight (rule .size) kind + (cond (is-round-read (o .kind)) (2 * rule .size) 0 + cond (is-relay-read (o .kind)) (rule .size) 0) ≤ limit (rule .size) (o .kind))
         (less : (n : ℕ) → (next-number s ≡ n → ⊥) → (k : ℕ) → pending (rule .size) n (getD readers k (new-reader (s .start))) ≤ pending (rule .size) n (getD (s .readers) k (new-reader (s .start)))) where
       opened : Outcome F
       opened = outcome [] (record { reply = Reply.Started (next-number s); sent = to-all (rule .size) kind (next-number s) from x; next = opened-state w readers o })
@@ -288,9 +296,9 @@ module _ {F : Type 0} where
         | inr u ↦ (ap (λ (y : Operation F). y .sent) (old-line n b (omega arith)), small n b (omega arith))
       ]
 
-      opened-stepped : (c : Call F) → limit (rule .size) c ≡ line-limit (rule .size) (o .kind) → Stepped rule s c opened
+      opened-stepped : (c : Call F) → ((p : Party) (k : OperationKind) → asked c ≡ Some (p, k) → o .kind ≡ k) → Stepped rule s c opened
       unfolding opened
-      opened-stepped c allowed = record {
+      opened-stepped c kind-is = record {
         shape = shaped ∙ ap (λ (k : ℕ). rule .size * k) (sym wide);
         more-lines = omega (arith, many-lines);
         past = λ n b. of-operation-none n (next-number s) (to-all (rule .size) kind (next-number s) from x) (all-to-all (next-number s) (next-number s) refl (rule .size) kind from x) (λ e. omega (arith, many-lines));
@@ -301,9 +309,9 @@ module _ {F : Type 0} where
             omega arith;
         spends = λ n b h u. old-spends n b h;
         opens = λ n b h. new-opens n b (omega (arith, many-lines));
-        starts = λ n b e.
+        starts = λ n p k b e.
             let same : next-number s ≡ n = cc in
-            (omega arith, omega (arith, many-lines), allowed ∙ sym (new-limit n (omega arith) (omega arith)));
+            (omega arith, omega (arith, many-lines), new-kind n (omega arith) (omega arith) ∙ kind-is p k b);
       }
         where
           positive : All (λ (a : Message F). 1 ≤ a .operation) (to-all (rule .size) kind (next-number s) from x)
@@ -312,8 +320,8 @@ module _ {F : Type 0} where
           new-kind : (n : ℕ) → length (s .journal) < n → n ≤ suc (length (s .journal)) → (line (opened .next) n) .kind ≡ o .kind
           new-kind n b h = same-field (λ (y : Operation F). y .kind) (λ y. refl) n ∙ ap (λ (y : Operation F). y .kind) (new-line n b h)
 
-          new-limit : (n : ℕ) → length (s .journal) < n → n ≤ suc (length (s .journal)) → line-limit (rule .size) ((line (opened .next) n) .kind) ≡ line-limit (rule .size) (o .kind)
-          new-limit n b h = ap (line-limit (rule .size)) (new-kind n b h)
+          new-limit : (n : ℕ) → length (s .journal) < n → n ≤ suc (length (s .journal)) → limit (rule .size) ((line (opened .next) n) .kind) ≡ limit (rule .size) (o .kind)
+          new-limit n b h = ap (limit (rule .size)) (new-kind n b h)
 
           old-spends : (n : ℕ) → 1 ≤ n → n ≤ length (s .journal) → of-operation n (opened .sent) + remaining rule (opened .next) n ≤ remaining rule s n
           old-spends n b h =
@@ -329,7 +337,7 @@ module _ {F : Type 0} where
               let below = reserve-below (is-round-read ((line s n) .kind)) (is-relay-read ((line s n) .kind)) _ _ _ _ (less n other (index ((line s n) .owner))) (le-of-eq e) in
               omega arith
 
-          new-opens : (n : ℕ) → length (s .journal) < n → n ≤ suc (length (s .journal)) → of-operation n (opened .sent) + remaining rule (opened .next) n ≤ line-limit (rule .size) ((line (opened .next) n) .kind)
+          new-opens : (n : ℕ) → length (s .journal) < n → n ≤ suc (length (s .journal)) → of-operation n (opened .sent) + remaining rule (opened .next) n ≤ limit (rule .size) ((line (opened .next) n) .kind)
           new-opens n b h =
               let e : next-number s ≡ n = omega arith in
               let sent = of-operation-to-all n (rule .size) kind (next-number s) from x in
@@ -348,13 +356,13 @@ module _ {F : Type 0} where
     unfolding write opened
     write-stepped parts f = opened-stepped parts (writing (s .writer) (next-number s) ((to-write s f) .stamp)) (s .readers)
         (record { kind = OperationKind.Write; owner = Party.Writer; started = next-number s + s .finished; finished = 0; exchanges = 0; stamp = (to-write s f) .stamp; figure = f; sent = 0 })
-        MessageKind.Put Party.Writer (to-write s f) refl refl (omega arith) (λ n u k. omega arith) (Call.Write f) refl
+        MessageKind.Put Party.Writer (to-write s f) refl refl (omega arith) (λ n u k. omega arith) (Call.Write f) (λ p k e. ap kind-asked e)
 
     -- the reader has a new operation, so it has nothing pending for another
     reading-pending : (n : ℕ) (d : Reader F) (phase : Phase) → (next-number s ≡ n → ⊥) → pending (rule .size) n (reading (s .start) d (next-number s) phase) ≡ 0
     reading-pending n d phase u = grind (arith, tells)
 
-    worth-read : (kind : ReadKind) → rule .size + rule .size * weight (rule .size) (opening-message kind) + (cond (is-round-read (OperationKind.Read kind)) (2 * rule .size) 0 + cond (is-relay-read (OperationKind.Read kind)) (rule .size) 0) ≤ read-limit (rule .size) kind
+    worth-read : (kind : ReadKind) → rule .size + rule .size * weight (rule .size) (opening-message kind) + (cond (is-round-read (OperationKind.Read kind)) (2 * rule .size) 0 + cond (is-relay-read (OperationKind.Read kind)) (rule .size) 0) ≤ limit (rule .size) (OperationKind.Read kind)
     worth-read ReadKind.Quick = omega arith
     worth-read ReadKind.Settled = omega arith
     worth-read ReadKind.Relay = omega arith
@@ -365,7 +373,7 @@ module _ {F : Type 0} where
         (record { kind = OperationKind.Read kind; owner = Party.Reader r; started = next-number s + s .finished; finished = 0; exchanges = 0; stamp = (unused (s .start)) .stamp; figure = s .start; sent = 0 })
         (opening-message kind) (Party.Reader r) (unused (s .start)) (length-set (s .readers) r (reading (s .start) (reader s r) (next-number s) (opening-phase kind))) refl (worth-read kind)
         (λ n u k. set-below (pending (rule .size) n) (s .readers) r (reading (s .start) (reader s r) (next-number s) (opening-phase kind)) (new-reader (s .start)) (omega (arith, reading-pending n (reader s r) (opening-phase kind) u)) k)
-        (Call.Read r kind) refl
+        (Call.Read r kind) (λ p k e. ap kind-asked e)
 
     -- Any call
 

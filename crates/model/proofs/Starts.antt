@@ -26,13 +26,12 @@ use Rattle.model.specs.Records.{writing, best, reading}
 use Rattle.model.specs.Deliveries.{Effect}
 use Rattle.model.specs.Steps.{next-number, to-write, write, opening-phase, opening-message, read}
 use Rattle.model.specs.History.{Event, History}
-use Rattle.model.specs.Claims.{Finishes}
 use Rattle.model.proofs.Sets.{none}
 use Rattle.model.proofs.Lists.{each-set, get-set, get-old, get-new, length-push, one, all-to-all, in-to-all}
 use Rattle.model.proofs.Ranks.{rank-start, rank-next}
 use Rattle.model.proofs.World.{put-at, put-same, put-other, put-each, Op, World, Later, Core}
 use Rattle.model.proofs.Moves.{read-op, write-op, read-begun, write-begun, later-read, core-read, later-write, core-write}
-use Rattle.model.proofs.Good.{apart-writer, apart-reader, current, start-true, Says, InPhase, Writing, LineGood, AtWork, Opens, Good, Kept, true-later, mark-later, messages-later, Still, phase-later, writing-later, line-later, advance}
+use Rattle.model.proofs.Good.{apart-writer, apart-reader, current, start-true, Says, InPhase, Writing, LineGood, AtWork, Opens, Closes, Good, Kept, true-later, mark-later, messages-later, Still, phase-later, writing-later, line-later, advance}
 use Rattle.model.proofs.Steps.{work-later}
 use Rattle.model.proofs.Ends.{line-none}
 
@@ -120,7 +119,7 @@ module _ {F : Type 0} (q : Rule) (R : ℕ) (law : Lawful q) (start : F) (w : Wor
               begun = put-each (λ i p. 1 ≤ p .stage → (1 ≤ (w .ops i) .stage) ⊎ ((p .begun ≡ length h) × (_≡_ {A = Reply F} (Reply.Started (next-number s)) (Reply.Started i)))) (w .ops) (suc (w .count)) o
                   (λ _. inr (begun-is ∙ g .now-is, λ i. Reply.Started (sym number-is i)))
                   (λ i _ l. inl l);
-              ended = put-each (λ i p. 3 ≤ p .stage → (3 ≤ (w .ops i) .stage) ⊎ ((p .ended ≡ length h) × Finishes (record { call = c; reply = Reply.Started (next-number s); taken = []; sent = sent }) i (value (p .aim)))) (w .ops) (suc (w .count)) o
+              ended = put-each (λ i p. 3 ≤ p .stage → (3 ≤ (w .ops i) .stage) ⊎ ((p .ended ≡ length h) × Closes (record { call = c; reply = Reply.Started (next-number s); taken = []; sent = sent }) i (value (p .aim)))) (w .ops) (suc (w .count)) o
                   (λ l. absurd (omega arith)) (λ i _ l. inl l);
             })
 
