@@ -19,14 +19,13 @@ use Rattle.model.specs.declared.messages.Message.{Message}
 use Rattle.model.specs.declared.calls.Call.{Call}
 use Rattle.model.specs.declared.answers.Reply.{Reply}
 use Rattle.model.specs.State.{State, halted}
-use Rattle.model.specs.History.{Event, History, Grows}
-use Rattle.model.specs.Claims.{In, Starts, Finished, Unawaited, working, Finishing}
+use Rattle.model.specs.History.{History}
+use Rattle.model.specs.Claims.{In, Starts, Finished, Undropped, Unawaited, working, Finishing}
 use Rattle.model.proofs.Lists.{all-in}
 use Rattle.model.proofs.World.{World}
 use Rattle.model.proofs.Good.{current, Says, Opens, Begins, Answers, shown, Good}
 use Rattle.model.proofs.Chains.{mark-at, Noted, Awake, To, WaitsFrom, Exchange, RelayLive, ReaderLive}
 use Rattle.model.proofs.Lives.{LiveIn}
-use Rattle.model.proofs.Survives.{alive}
 use Rattle.model.proofs.Tellings.{starts-at}
 
 module _ {F : Type 0} (q : Rule) (R : ℕ) (law : Lawful q) (start : F) (w : World F) (s : State F) (h : History F) (g : Good q R start w s h) (j : ℕ) (x : LiveIn q R j s)
@@ -94,17 +93,16 @@ module _ {F : Type 0} (q : Rule) (R : ℕ) (law : Lawful q) (start : F) (w : Wor
       let z = subst (λ p. current (s .start) (s .writer .operation) (s .readers) p ≡ j) e (g .at-work j .busy b l) in
       omega (arith, z, g .core .op j .named b)
 
-  pub finished : (p : Party) → (w .ops j) .owner ≡ p → halted s p ≡ false → 1 ≤ (w .ops j) .stage → Finished h j
+  finished : (p : Party) → (w .ops j) .owner ≡ p → halted s p ≡ false → 1 ≤ (w .ops j) .stage → Finished h j
   finished p e k b = elim (cases-lt ((w .ops j) .stage) 3) [
     | inr l ↦ ((w .ops j) .ended, shown w j, g .ended j l)
     | inl l ↦ absurd (not-at-it p e k b (omega arith))
   ]
 
-pub finishes : (F : Type 0) (rule : Rule) → Lawful rule → (start : F) (h : History F) (s : State F) → Grows rule start h s → Finishing rule h s
-finishes F rule law start h s grows m n p kind st works enough undropped quiet =
-    let y = alive rule law start h s grows in
-    let w = y .known .world in
-    let g = y .known .good in
-    let b = starts-at rule (y .readers) law start w s h g m n p kind st in
+-- What each operation of which nothing was dropped waits for brings it to its end.
+pub finishes : {F : Type 0} (q : Rule) (R : ℕ) (law : Lawful q) (start : F) (w : World F) (s : State F) (h : History F) (g : Good q R start w s h)
+    → ((j : ℕ) → 0 < j → Undropped h j → LiveIn q R j s) → Finishing q h s
+finishes q R law start w s h g lives m n p kind st works enough undropped quiet =
+    let b = starts-at q R law start w s h g m n p kind st in
     let pos = g .core .op n .named (b .stage-is) in
-    finished rule (y .readers) law start w s h g n (y .lives n pos undropped) enough quiet p (b .owner-is) works (b .stage-is)
+    finished q R law start w s h g n (lives n pos undropped) enough quiet p (b .owner-is) works (b .stage-is)

@@ -14,7 +14,7 @@ use Rattle.model.specs.declared.journal.Operation.{Operation}
 use Rattle.model.specs.declared.calls.Call.{Call}
 use Rattle.model.specs.State.{State, no-line, new-mark, new-reader, fresh, line}
 use Rattle.model.specs.Steps.{Outcome, step}
-use Rattle.model.specs.History.{Event, History, event, Grows, begun, more}
+use Rattle.model.specs.History.{Event, History, event}
 use Rattle.model.specs.Claims.{At, asked, Starts, Uncopied, of-operation, sent-for, limit, Limits}
 use Rattle.model.proofs.Lists.{at-old, at-new, at-cases}
 use Rattle.model.proofs.Spending.{remaining, Copies-none, Shaped, Stepped, step-stepped}
@@ -25,7 +25,7 @@ module _ {F : Type 0} where
   sent-for-more n [] e = omega arith
   sent-for-more n (d ∷ h) e = omega (arith, sent-for-more n h e)
 
-  record Accounted (rule : Rule) (h : History F) (s : State F) : Type 0 where
+  pub record Accounted (rule : Rule) (h : History F) (s : State F) : Type 0 where
     shape : Shaped rule s
     -- nothing was sent for an operation that has not started
     past : (n : ℕ) → length (s .journal) < n → sent-for n h ≡ 0
@@ -36,7 +36,7 @@ module _ {F : Type 0} where
     -- what was sent for an operation, and what may still be sent, is within its limit
     within : (n : ℕ) → 1 ≤ n → n ≤ length (s .journal) → Uncopied h n → sent-for n h + remaining rule s n ≤ limit (rule .size) ((line s n) .kind)
 
-  fresh-accounted : (rule : Rule) (start : F) (readers message-room journal-room : ℕ) → Accounted rule [] (fresh rule start readers message-room journal-room)
+  pub fresh-accounted : (rule : Rule) (start : F) (readers message-room journal-room : ℕ) → Accounted rule [] (fresh rule start readers message-room journal-room)
   unfolding fresh sent-for
   fresh-accounted rule start readers message-room journal-room = record {
     shape = length-replicate (rule .size * readers) new-mark ∙ ap (λ (k : ℕ). rule .size * k) (sym (length-replicate readers (new-reader start)));
@@ -46,8 +46,8 @@ module _ {F : Type 0} where
     within = λ n b h u. absurd (omega arith);
   }
 
-  step-accounted : (rule : Rule) (h : History F) (s : State F) (c : Call F) (o : Outcome F) → Stepped rule s c o → Accounted rule h s → Accounted rule (h ++ event c o ∷ []) (o .next)
-  step-accounted rule h s c o t g = record {
+  more-accounted : (rule : Rule) (h : History F) (s : State F) (c : Call F) (o : Outcome F) → Stepped rule s c o → Accounted rule h s → Accounted rule (h ++ event c o ∷ []) (o .next)
+  more-accounted rule h s c o t g = record {
     shape = t .shape;
     past = λ n b. omega (arith, sent-for-more n h (event c o), t .past n b, g .past n (omega (arith, t .more-lines)));
     counts = λ n b i. elim (cases-lt (length (s .journal)) n) [
@@ -72,21 +72,13 @@ module _ {F : Type 0} where
     ];
   }
 
-  accounted : (rule : Rule) (start : F) {h : History F} {s : State F} → Grows rule start h s → Accounted rule h s
-  accounted rule start (begun readers message-room journal-room) = fresh-accounted rule start readers message-room journal-room
-  accounted rule start (more {h = h} {s = s} grown c) = one-more-call (accounted rule start grown)
-    where
-      one-more-call : Accounted rule h s → Accounted rule (h ++ event c (step rule s c) ∷ []) ((step rule s c) .next)
-      one-more-call g = step-accounted rule h s c (step rule s c) (step-stepped rule s (g .shape) (λ n b i. omega (arith, g .counts n b i)) c) g
+  pub step-accounted : (rule : Rule) (h : History F) (s : State F) (c : Call F) → Accounted rule h s → Accounted rule (h ++ event c (step rule s c) ∷ []) ((step rule s c) .next)
+  step-accounted rule h s c g = more-accounted rule h s c (step rule s c) (step-stepped rule s (g .shape) (λ n b i. omega (arith, g .counts n b i)) c) g
 
-  limits : (rule : Rule) (h : History F) (s : State F) → Accounted rule h s → Limits rule h s
+  pub limits : (rule : Rule) (h : History F) (s : State F) → Accounted rule h s → Limits rule h s
   limits rule h s g = record {
     true-counts = g .counts;
     bounded = λ m n p kind i u.
         let k = g .known m n p kind i in
         omega (arith, g .counts n (k .0) (k .1), g .within n (k .0) (k .1) u, ap (limit (rule .size)) (k .2));
   }
-
--- Every history of every rule keeps the limits, whatever the figures.
-pub limits-hold : (F : Type 0) (rule : Rule) (start : F) (h : History F) (s : State F) → Grows rule start h s → Limits rule h s
-limits-hold F rule start h s grown = limits rule h s (accounted rule start grown)

@@ -14,14 +14,13 @@ use Rattle.model.specs.declared.calls.Call.{Call}
 use Rattle.model.specs.declared.answers.Reply.{Reply}
 use Rattle.model.specs.Stamps.{rank}
 use Rattle.model.specs.State.{State, Held, unused}
-use Rattle.model.specs.History.{Event, History, Grows}
-use Rattle.model.specs.Claims.{In, Once, Before, Precedes, Shows, Numbered, Belongs, Plays, Row}
+use Rattle.model.specs.History.{History}
+use Rattle.model.specs.Claims.{In, Once, Before, Precedes, Shows, Belongs, Plays, Row}
 use Rattle.model.proofs.Lists.{all-in}
 use Rattle.model.proofs.Rows.{Pairwise, pairwise-weaker, either-way, at-before, Le, arrange, arranged, arranges, once-arrange, le-arrange, Fits, Source, Ready, row-plays}
 use Rattle.model.proofs.World.{held, Op, World}
 use Rattle.model.proofs.Good.{Says, Ends, Opens, Begins, Answers, shown, Good}
-use Rattle.model.proofs.Run.{reached}
-use Rattle.model.proofs.Tellings.{ends-at, begins-at, writes, shows, write-is, read-is, numbered}
+use Rattle.model.proofs.Tellings.{ends-at, begins-at, writes, shows, write-is, read-is}
 
 -- Some number up to n passes.
 some : (ℕ → Bool) → ℕ → Bool
@@ -239,13 +238,3 @@ module _ {F : Type 0} (q : Rule) (R : ℕ) (law : Lawful q) (start : F) (w : Wor
 
   pub in-a-row : Row start h
   in-a-row = record { row = row; once = once; only = only; every = every; in-time = in-time; plays = plays }
-
-pub numbers : (F : Type 0) (rule : Rule) → Lawful rule → (start : F) (h : History F) (s : State F) → Grows rule start h s → Numbered h s
-numbers F rule law start h s grows =
-    let k = reached rule law start h s grows in
-    numbered rule (k .readers) law start (k .known .world) s h (k .known .good)
-
-pub rows : (F : Type 0) (rule : Rule) → Lawful rule → (start : F) (h : History F) (s : State F) → Grows rule start h s → Row start h
-rows F rule law start h s grows =
-    let k = reached rule law start h s grows in
-    in-a-row rule (k .readers) law start (k .known .world) s h (k .known .good)

@@ -1,4 +1,4 @@
--- Every history keeps what is known.
+-- Every call keeps what is known.
 use mathlib.Core.Path.{_≡_, refl, sym}
 use mathlib.Core.Bool.{true, false, not}
 use mathlib.Core.List.{List, [], _∷_, _++_}
@@ -35,7 +35,6 @@ use Rattle.std.specs.declared.option.Option.the-variants.{Some}
 use Rattle.model.specs.State.{fresh}
 use Rattle.model.specs.Sound.{sound}
 use Rattle.model.specs.Steps.{busy}
-use Rattle.model.specs.History.{Grows, begun, more}
 use Rattle.model.proofs.Lists.{each-replicate}
 use Rattle.model.proofs.Waits.{kept-put-ack}
 use Rattle.model.proofs.Acts.{kept-put, kept-back}
@@ -193,14 +192,3 @@ module _ {F : Type 0} (q : Rule) (R : ℕ) (law : Lawful q) (start : F) where
 
   pub known-step : (s : State F) (h : History F) (c : Call F) → Known s h → Known ((step q s c) .next) (h ++ event c (step q s c) ∷ [])
   known-step s h c k = let n = keeps-step (k .world) s h (k .good) c in record { world = n .world; good = n .good }
-
--- A history's readers and what is known of it.
-pub record Reached {F : Type 0} (q : Rule) (law : Lawful q) (start : F) (h : History F) (s : State F) : Type 0 where
-  pub readers : ℕ
-  pub known : Known q readers law start s h
-
-pub reached : {F : Type 0} (q : Rule) (law : Lawful q) (start : F) (h : History F) (s : State F) → Grows q start h s → Reached q law start h s
-reached q law start h s (begun readers a b) = record { readers = readers; known = known-first q readers law start a b }
-reached q law start h s (more {h = h′} {s = s′} before c) =
-    let k = reached q law start h′ s′ before in
-    record { readers = k .readers; known = known-step q (k .readers) law start s′ h′ c (k .known) }

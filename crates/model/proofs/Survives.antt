@@ -189,29 +189,10 @@ module _ {F : Type 0} (q : Rule) (R : ℕ) (law : Lawful q) (start : F) (w : Wor
   step-lives c = stepped (λ o. Spares j c o → O o) q s c (λ e _. record { live = x }) (λ _ t sp. done-lives c t sp)
 
 module _ {F : Type 0} (q : Rule) (law : Lawful q) (start : F) where
-  fresh-lives : (R a b j : ℕ) → 0 < j → LiveIn q R j (fresh q start R a b)
+  pub fresh-lives : (R a b j : ℕ) → 0 < j → LiveIn q R j (fresh q start R a b)
   unfolding fresh
   fresh-lives R a b j pos = record {
     sized-marks = length-replicate (q .size * R) _;
     writer-live = λ e. absurd (omega arith);
     reader-live = each-replicate (λ k (y : Reader F). AtIt q start j R (replicate (q .size * R) new-mark) (replicate (q .size) (new-replica start)) [] k y) R _ _ (λ k e. absurd (omega arith)) (λ k e. absurd (omega arith));
   }
-
-  -- What is known of a history's state, and what each operation of which nothing was dropped waits for.
-  pub record Alive (h : History F) (s : State F) : Type 0 where
-    pub readers : ℕ
-    pub known : Known q readers law start s h
-    pub lives : (j : ℕ) → 0 < j → Undropped h j → LiveIn q readers j s
-
-  pub alive : (h : History F) (s : State F) → Grows q start h s → Alive h s
-  alive h s (begun readers a b) = record { readers = readers; known = known-first q readers law start a b; lives = λ j pos _. fresh-lives readers a b j pos }
-  alive h s (more {h = h′} {s = s′} before c) =
-      let k = alive h′ s′ before in
-      let e = event c (step q s′ c) in
-      record {
-        readers = k .readers;
-        known = known-step q (k .readers) law start s′ h′ c (k .known);
-        lives = λ j pos u.
-            step-lives q (k .readers) law start (k .known .world) s′ h′ (k .known .good) j pos (k .lives j pos (λ m p d a i. u m p d a (at-old h′ e m d i))) c
-            (λ p i a n. u (length h′) p e a (at-new h′ e) i n) .live;
-      }
