@@ -2,7 +2,6 @@
 use mathlib.Core.Path.{_≡_, sym, ap, _∙_, subst}
 use mathlib.Core.Bool.{true, false, not}
 use mathlib.Core.Logic.{inl, inr}
-use mathlib.Core.List.{List}
 use Prim.Native.Nat.{ℕ, _<_, _≤_}
 use native.Mathlib.Omega.{arith}
 use lib.Dec.{ltb}
@@ -16,14 +15,13 @@ use Rattle.model.specs.declared.writer.Writer.{Writer}
 use Rattle.model.specs.declared.replica.Replica.{Replica}
 use Rattle.model.specs.declared.reader.Reader.{Reader}
 use Rattle.model.specs.declared.messages.Message.{Message}
-use Rattle.model.specs.declared.calls.Call.{Call}
 use Rattle.model.specs.declared.answers.Reply.{Reply}
 use Rattle.model.specs.State.{State, halted}
 use Rattle.model.specs.History.{History}
-use Rattle.model.specs.Claims.{In, Starts, Finished, Undropped, Unawaited, working, Finishing}
+use Rattle.model.specs.Claims.{In, Finished, Undropped, Unawaited, working, Finishing}
 use Rattle.model.proofs.Lists.{all-in}
 use Rattle.model.proofs.World.{World}
-use Rattle.model.proofs.Good.{current, Says, Opens, Begins, Answers, shown, Good}
+use Rattle.model.proofs.Good.{current, Says, shown, Good}
 use Rattle.model.proofs.Chains.{mark-at, Noted, Awake, To, WaitsFrom, Exchange, RelayLive, ReaderLive}
 use Rattle.model.proofs.Lives.{LiveIn}
 use Rattle.model.proofs.Tellings.{starts-at}

@@ -1,8 +1,8 @@
 -- The counts of the journal are those of the history, and no operation sends more than its limit unless a message of it was copied.
-use mathlib.Core.Path.{_≡_, refl, sym, ap, _∙_, subst}
-use mathlib.Core.Logic.{_⊎_, inl, inr}
-use mathlib.Core.List.{List, [], _∷_, _++_}
-use Prim.Native.Nat.{ℕ, zero, suc, pred, _+_, _*_, _<_, _≤_, min}
+use mathlib.Core.Path.{_≡_, refl, sym, ap, _∙_}
+use mathlib.Core.Logic.{inl, inr}
+use mathlib.Core.List.{[], _∷_, _++_}
+use Prim.Native.Nat.{ℕ, pred, _+_, _*_, _<_, _≤_, min}
 use native.Mathlib.Omega.{arith}
 use lib.ListN.{length, length-replicate}
 use Rattle.std.proofs.shelf.Lists.{getD-past}
@@ -15,7 +15,7 @@ use Rattle.model.specs.declared.calls.Call.{Call}
 use Rattle.model.specs.State.{State, no-line, new-mark, new-reader, fresh, line}
 use Rattle.model.specs.Steps.{Outcome, step}
 use Rattle.model.specs.History.{Event, History, event}
-use Rattle.model.specs.Claims.{At, asked, Starts, Uncopied, of-operation, sent-for, limit, Limits}
+use Rattle.model.specs.Claims.{asked, Starts, Uncopied, of-operation, sent-for, limit, Limits}
 use Rattle.model.proofs.Lists.{at-old, at-new, at-cases}
 use Rattle.model.proofs.Spending.{remaining, Copies-none, Shaped, Stepped, step-stepped}
 

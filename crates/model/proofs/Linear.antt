@@ -1,5 +1,5 @@
 -- What is known at the end of a history puts its operations in a row.
-use mathlib.Core.Path.{_≡_, refl, sym, ap, _∙_, subst}
+use mathlib.Core.Path.{_≡_, sym, ap, _∙_, subst}
 use mathlib.Core.Bool.{Bool, true, false, not, _&&_, _||_}
 use mathlib.Core.Logic.{_⊎_, inl, inr}
 use mathlib.Core.List.{List}
@@ -9,17 +9,12 @@ use lib.Dec.{eqb, leb}
 use Rattle.std.proofs.shelf.Tests.{cases-eq, cases-lt, both-ways, eqb-true, or-cases, not-true, not-from-false, and-parts, and-from, or-left, or-right, leb-true, le-leb, eq-eqb}
 use Rattle.quorum.specs.Sets.{Rule}
 use Rattle.quorum.specs.Laws.{Lawful}
-use Rattle.model.specs.declared.messages.Message.{Message}
-use Rattle.model.specs.declared.calls.Call.{Call}
-use Rattle.model.specs.declared.answers.Reply.{Reply}
-use Rattle.model.specs.Stamps.{rank}
-use Rattle.model.specs.State.{State, Held, unused}
+use Rattle.model.specs.State.{State, unused}
 use Rattle.model.specs.History.{History}
 use Rattle.model.specs.Claims.{In, Once, Before, Precedes, Shows, Belongs, Plays, Row}
-use Rattle.model.proofs.Lists.{all-in}
 use Rattle.model.proofs.Rows.{Pairwise, pairwise-weaker, either-way, at-before, Le, arrange, arranged, arranges, once-arrange, le-arrange, Fits, Source, Ready, row-plays}
 use Rattle.model.proofs.World.{held, Op, World}
-use Rattle.model.proofs.Good.{Says, Ends, Opens, Begins, Answers, shown, Good}
+use Rattle.model.proofs.Good.{shown, Good}
 use Rattle.model.proofs.Tellings.{ends-at, begins-at, writes, shows, write-is, read-is}
 
 -- Some number up to n passes.

@@ -20,7 +20,7 @@ use Rattle.model.specs.declared.calls.Call.{Call}
 use Rattle.model.specs.declared.answers.Reply.{Reply}
 use Rattle.model.specs.State.{State, Held, unused, without, new-replica, new-mark, no-message, reader, message, halted, without-message}
 use Rattle.model.specs.Deliveries.{to-all, on, received}
-use Rattle.model.specs.History.{History, event}
+use Rattle.model.specs.History.{History}
 use Rattle.model.specs.Claims.{In}
 use Rattle.model.proofs.Lists.{each-set, each-set-all, in-left, in-right, in-without}
 use Rattle.model.proofs.World.{World}
@@ -30,11 +30,9 @@ use Rattle.model.proofs.Lives.{LiveIn, Lives, round-none, lost, put-lives, bac
 use lib.ListN.{replicate, length-replicate}
 use Rattle.model.specs.State.{fresh}
 use Rattle.model.specs.Steps.{Outcome, outcome, next-number, to-write, write, opening-phase, opening-message, read, deliver, dropped, duplicated, halt, done, tests, step}
-use Rattle.model.specs.History.{Grows, begun, more}
-use Rattle.model.specs.Claims.{Undropped}
-use Rattle.model.proofs.Lists.{each-replicate, at-old, at-new}
+use Rattle.model.proofs.Lists.{each-replicate}
 use Rattle.model.proofs.LiveRelays.{relay-lives, reply-lives}
-use Rattle.model.proofs.Run.{Clear, stepped, says-at, Known, known-first, known-step}
+use Rattle.model.proofs.Run.{Clear, stepped, says-at}
 
 pub record LivesOn {F : Type 0} (q : Rule) (R j : ℕ) (o : Outcome F) : Type 0 where
   pub live : LiveIn q R j (o .next)

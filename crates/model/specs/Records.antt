@@ -1,5 +1,5 @@
--- What becomes of single records.
-use mathlib.Core.Bool.{true, false, cond, _||_}
+-- What becomes of single records as the register works.
+use mathlib.Core.Bool.{Bool, true, false, cond, _||_}
 use Prim.Native.Nat.{ℕ, _+_, min}
 use lib.Dec.{eqb, ltb}
 use Rattle.quorum.specs.Sets.{joined}
@@ -12,41 +12,64 @@ use Rattle.model.specs.declared.journal.Operation.{Operation}
 use Rattle.model.specs.Stamps.{Stamp, rank}
 use Rattle.model.specs.State.{Held, unused}
 
--- A replica takes a stamp and its figure only if the stamp is above its own.
-abbrev pub took : {F : Type 0} → Held F → Held F → Held F
-took own offered = cond (ltb (rank (own .stamp)) (rank (offered .stamp))) offered own
+-- THE WRITER
 
--- The writer with a new operation under a new stamp, with one more acknowledger, and free again.
-
+-- It starts operation n under stamp t.
 abbrev pub writing : Writer → ℕ → Stamp → Writer
 writing w n t = record { halted = w .halted; last = t; operation = n; acknowledgers = 0 }
 
+-- Replica c has acknowledged.
 abbrev pub acknowledged : Writer → ℕ → Writer
-acknowledged w c = record { halted = w .halted; last = w .last; operation = w .operation; acknowledgers = joined (w .acknowledgers) c }
+acknowledged w c = record {
+  halted = w .halted;
+  last = w .last;
+  operation = w .operation;
+  acknowledgers = joined (w .acknowledgers) c;
+}
 
+-- Its operation has finished.
 abbrev pub writer-freed : Writer → Writer
 writer-freed w = record { halted = w .halted; last = w .last; operation = 0; acknowledgers = w .acknowledgers }
 
 abbrev pub writer-halted : Writer → Writer
 writer-halted w = record { halted = true; last = w .last; operation = w .operation; acknowledgers = w .acknowledgers }
 
+-- REPLICAS
+
+-- A replica takes a stamp and its figure only if the stamp is above its own.
+abbrev pub took : {F : Type 0} → Held F → Held F → Held F
+took own offered = cond (ltb (rank (own .stamp)) (rank (offered .stamp))) offered own
+
 abbrev pub replica-halted : {F : Type 0} → Replica F → Replica F
 replica-halted x = record { stamp = x .stamp; figure = x .figure; halted = true }
 
-abbrev pub reader-halted : {F : Type 0} → Reader F → Reader F
-reader-halted d = record { halted = true; operation = d .operation; phase = d .phase; replies = d .replies; «best_stamp» = d .«best_stamp»; «best_figure» = d .«best_figure»; holders = d .holders }
+-- READERS
 
 -- The best that a reader has found.
 abbrev pub best : {F : Type 0} → Reader F → Held F
 best d = record { stamp = d .«best_stamp»; figure = d .«best_figure» }
 
--- A reader that starts operation n.
-abbrev pub reading : {F : Type 0} → F → Reader F → ℕ → Phase → Reader F
-reading start d n phase = record { halted = d .halted; operation = n; phase = phase; replies = 0; «best_stamp» = (unused start) .stamp; «best_figure» = start; holders = 0 }
+abbrev pub reader-now : {F : Type 0} → Bool → ℕ → Phase → ℕ → Held F → ℕ → Reader F
+reader-now halted operation phase replies best holders = record {
+  halted = halted;
+  operation = operation;
+  phase = phase;
+  replies = replies;
+  «best_stamp» = best .stamp;
+  «best_figure» = best .figure;
+  holders = holders;
+}
 
--- The reader with replica c among the replies, this as its best and these holders of it.
+abbrev pub reader-halted : {F : Type 0} → Reader F → Reader F
+reader-halted d = reader-now true (d .operation) (d .phase) (d .replies) (best d) (d .holders)
+
+-- It starts operation n.
+abbrev pub reading : {F : Type 0} → F → Reader F → ℕ → Phase → Reader F
+reading start d n phase = reader-now (d .halted) n phase 0 (unused start) 0
+
+-- It has replica c among the replies, x as its best and these holders of it.
 abbrev pub replied-by : {F : Type 0} → Reader F → ℕ → Held F → ℕ → Reader F
-replied-by d c x holders = record { halted = d .halted; operation = d .operation; phase = d .phase; replies = joined (d .replies) c; «best_stamp» = x .stamp; «best_figure» = x .figure; holders = holders }
+replied-by d c x holders = reader-now (d .halted) (d .operation) (d .phase) (joined (d .replies) c) x holders
 
 -- After what replica c has: a higher stamp becomes the best, with c its only holder, and an equal one adds a holder.
 unfoldable pub heard : {F : Type 0} → Reader F → ℕ → Held F → Reader F
@@ -54,6 +77,10 @@ heard d c x =
     cond (ltb (rank (d .«best_stamp»)) (rank (x .stamp))) (replied-by d c x (joined 0 c))
     (cond (eqb (rank (d .«best_stamp»)) (rank (x .stamp))) (replied-by d c (best d) (joined (d .holders) c))
     (replied-by d c (best d) (d .holders)))
+
+-- It goes on to its second round.
+abbrev pub placing : {F : Type 0} → Reader F → Reader F
+placing d = reader-now (d .halted) (d .operation) Phase.Second 0 (best d) (d .holders)
 
 -- After an acknowledgement of replica c.
 abbrev pub confirmed : {F : Type 0} → Reader F → ℕ → Reader F
@@ -66,12 +93,11 @@ lowered d c x =
     (replied-by d c x (d .holders))
     (replied-by d c (best d) (d .holders))
 
--- The reader goes on to its second round.
-abbrev pub placing : {F : Type 0} → Reader F → Reader F
-placing d = record { halted = d .halted; operation = d .operation; phase = Phase.Second; replies = 0; «best_stamp» = d .«best_stamp»; «best_figure» = d .«best_figure»; holders = d .holders }
-
+-- Its operation has finished.
 abbrev pub reader-freed : {F : Type 0} → Reader F → Reader F
-reader-freed d = record { halted = d .halted; operation = 0; phase = Phase.Idle; replies = d .replies; «best_stamp» = d .«best_stamp»; «best_figure» = d .«best_figure»; holders = d .holders }
+reader-freed d = reader-now (d .halted) 0 Phase.Idle (d .replies) (best d) (d .holders)
+
+-- MARKS
 
 -- A mark after replica c relayed for operation n, which is not below the mark's.
 unfoldable pub marked : RelayMark → ℕ → ℕ → RelayMark
@@ -83,13 +109,34 @@ marked k n c =
 abbrev pub mark-replied : RelayMark → RelayMark
 mark-replied k = record { operation = k .operation; relayers = k .relayers; replied = true }
 
+-- LINES OF THE JOURNAL
+
 -- Counts stop at 65,535.
 abbrev pub one-more : ℕ → ℕ
 one-more n = min (n + 1) 65535
 
--- A line after one more message of its operation, and after its finish.
+-- After one more message of its operation.
 abbrev pub one-sent : {F : Type 0} → Operation F → Operation F
-one-sent o = record { kind = o .kind; owner = o .owner; started = o .started; finished = o .finished; exchanges = o .exchanges; stamp = o .stamp; figure = o .figure; sent = one-more (o .sent) }
+one-sent o = record {
+  kind = o .kind;
+  owner = o .owner;
+  started = o .started;
+  finished = o .finished;
+  exchanges = o .exchanges;
+  stamp = o .stamp;
+  figure = o .figure;
+  sent = one-more (o .sent);
+}
 
+-- After its finish with x, at this event.
 abbrev pub ended : {F : Type 0} → Operation F → ℕ → Held F → ℕ → Operation F
-ended o event x exchanges = record { kind = o .kind; owner = o .owner; started = o .started; finished = event; exchanges = exchanges; stamp = x .stamp; figure = x .figure; sent = o .sent }
+ended o event x exchanges = record {
+  kind = o .kind;
+  owner = o .owner;
+  started = o .started;
+  finished = event;
+  exchanges = exchanges;
+  stamp = x .stamp;
+  figure = x .figure;
+  sent = o .sent;
+}

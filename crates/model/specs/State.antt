@@ -1,4 +1,4 @@
--- The register and its tables as one value.
+-- The register and its tables as one value: what it begins with, how it is read and how it is changed.
 use mathlib.Core.List.{List, [], _∷_, _++_}
 use mathlib.Core.Bool.{Bool, false}
 use Prim.Native.Nat.{ℕ, zero, suc, pred, _+_, _*_}
@@ -37,6 +37,8 @@ pub record State (F : Type 0) : Type 0 where
   -- how many operations are finished, up to 65,535
   pub finished : ℕ
 
+-- TABLES
+
 -- A table whose front is this, and whose other places keep what they held.
 abbrev pub stored : {A : Type 0} → List A → List A → List A
 stored front table = front ++ drop (length front) table
@@ -53,9 +55,9 @@ index Party.Writer = 0
 index (Party.Reader r) = r
 index (Party.Replica c) = c
 
--- A new register
+-- A NEW REGISTER
 
--- What an unused field holds.
+-- What an unused stamp and figure hold.
 abbrev pub unused : {F : Type 0} → F → Held F
 unused f = record { stamp = no-stamp; figure = f }
 
@@ -66,7 +68,15 @@ abbrev pub new-replica : {F : Type 0} → F → Replica F
 new-replica f = record { stamp = no-stamp; figure = f; halted = false }
 
 abbrev pub new-reader : {F : Type 0} → F → Reader F
-new-reader f = record { halted = false; operation = 0; phase = Phase.Idle; replies = 0; «best_stamp» = no-stamp; «best_figure» = f; holders = 0 }
+new-reader f = record {
+  halted = false;
+  operation = 0;
+  phase = Phase.Idle;
+  replies = 0;
+  «best_stamp» = no-stamp;
+  «best_figure» = f;
+  holders = 0;
+}
 
 abbrev pub new-mark : RelayMark
 new-mark = record { operation = 0; relayers = 0; replied = false }
@@ -86,14 +96,37 @@ fresh rule start readers message-room journal-room = record {
   finished = 0;
 }
 
--- Reading it
+-- A message that carries x.
+abbrev pub new-message : {F : Type 0} → MessageKind → ℕ → Party → Party → Held F → Message F
+new-message kind n from to x = record {
+  kind = kind;
+  operation = n;
+  sender = from;
+  receiver = to;
+  stamp = x .stamp;
+  figure = x .figure;
+}
 
--- What a place past the end of a table would hold.
+-- A line of an operation that starts at this event, with x.
+abbrev pub new-line : {F : Type 0} → OperationKind → Party → ℕ → Held F → Operation F
+new-line kind owner event x = record {
+  kind = kind;
+  owner = owner;
+  started = event;
+  finished = 0;
+  exchanges = 0;
+  stamp = x .stamp;
+  figure = x .figure;
+  sent = 0;
+}
+
+-- READING IT. A place past the end of a table reads as a new record.
+
 abbrev pub no-message : {F : Type 0} → F → Message F
-no-message f = record { kind = MessageKind.Query; operation = 0; sender = Party.Writer; receiver = Party.Writer; stamp = no-stamp; figure = f }
+no-message f = new-message MessageKind.Query 0 Party.Writer Party.Writer (unused f)
 
 abbrev pub no-line : {F : Type 0} → F → Operation F
-no-line f = record { kind = OperationKind.Write; owner = Party.Writer; started = 0; finished = 0; exchanges = 0; stamp = no-stamp; figure = f; sent = 0 }
+no-line f = new-line OperationKind.Write Party.Writer 0 (unused f)
 
 abbrev pub replica : {F : Type 0} → State F → ℕ → Replica F
 replica s c = getD (s .replicas) c (new-replica (s .start))
@@ -124,26 +157,41 @@ halted s Party.Writer = s .writer .halted
 halted s (Party.Reader r) = (reader s r) .halted
 halted s (Party.Replica c) = (replica s c) .halted
 
--- Writing it
+-- CHANGING IT
+
+abbrev pub with-tables : {F : Type 0} → State F → Writer → List (Replica F) → List (Reader F) → List RelayMark
+    → List (Message F) → List (Operation F) → ℕ → State F
+with-tables s writer replicas readers marks messages journal finished = record {
+  start = s .start;
+  message-room = s .message-room;
+  journal-room = s .journal-room;
+  writer = writer;
+  replicas = replicas;
+  readers = readers;
+  marks = marks;
+  messages = messages;
+  journal = journal;
+  finished = finished;
+}
 
 abbrev pub with-writer : {F : Type 0} → State F → Writer → State F
-with-writer s w = record { start = s .start; message-room = s .message-room; journal-room = s .journal-room; writer = w; replicas = s .replicas; readers = s .readers; marks = s .marks; messages = s .messages; journal = s .journal; finished = s .finished }
+with-writer s w = with-tables s w (s .replicas) (s .readers) (s .marks) (s .messages) (s .journal) (s .finished)
 
 abbrev pub with-replicas : {F : Type 0} → State F → List (Replica F) → State F
-with-replicas s l = record { start = s .start; message-room = s .message-room; journal-room = s .journal-room; writer = s .writer; replicas = l; readers = s .readers; marks = s .marks; messages = s .messages; journal = s .journal; finished = s .finished }
+with-replicas s l = with-tables s (s .writer) l (s .readers) (s .marks) (s .messages) (s .journal) (s .finished)
 
 abbrev pub with-readers : {F : Type 0} → State F → List (Reader F) → State F
-with-readers s l = record { start = s .start; message-room = s .message-room; journal-room = s .journal-room; writer = s .writer; replicas = s .replicas; readers = l; marks = s .marks; messages = s .messages; journal = s .journal; finished = s .finished }
+with-readers s l = with-tables s (s .writer) (s .replicas) l (s .marks) (s .messages) (s .journal) (s .finished)
 
 abbrev pub with-marks : {F : Type 0} → State F → List RelayMark → State F
-with-marks s l = record { start = s .start; message-room = s .message-room; journal-room = s .journal-room; writer = s .writer; replicas = s .replicas; readers = s .readers; marks = l; messages = s .messages; journal = s .journal; finished = s .finished }
+with-marks s l = with-tables s (s .writer) (s .replicas) (s .readers) l (s .messages) (s .journal) (s .finished)
 
 abbrev pub with-messages : {F : Type 0} → State F → List (Message F) → State F
-with-messages s l = record { start = s .start; message-room = s .message-room; journal-room = s .journal-room; writer = s .writer; replicas = s .replicas; readers = s .readers; marks = s .marks; messages = l; journal = s .journal; finished = s .finished }
+with-messages s l = with-tables s (s .writer) (s .replicas) (s .readers) (s .marks) l (s .journal) (s .finished)
 
 -- The journal and the number of finished operations.
 abbrev pub with-journal : {F : Type 0} → State F → List (Operation F) → ℕ → State F
-with-journal s l n = record { start = s .start; message-room = s .message-room; journal-room = s .journal-room; writer = s .writer; replicas = s .replicas; readers = s .readers; marks = s .marks; messages = s .messages; journal = l; finished = n }
+with-journal s l n = with-tables s (s .writer) (s .replicas) (s .readers) (s .marks) (s .messages) l n
 
 abbrev pub with-reader : {F : Type 0} → State F → ℕ → Reader F → State F
 with-reader s r d = with-readers s (set (s .readers) r d)
@@ -151,9 +199,11 @@ with-reader s r d = with-readers s (set (s .readers) r d)
 abbrev pub with-mark : {F : Type 0} → State F → ℕ → ℕ → RelayMark → State F
 with-mark s c r k = with-marks s (set (s .marks) (mark-place s c r) k)
 
--- Replica c holds this.
+-- Replica c holds x.
 abbrev pub with-held : {F : Type 0} → State F → ℕ → Held F → State F
-with-held s c x = with-replicas s (set (s .replicas) c (record { stamp = x .stamp; figure = x .figure; halted = (replica s c) .halted }))
+with-held s c x =
+    with-replicas s
+    (set (s .replicas) c (record { stamp = x .stamp; figure = x .figure; halted = (replica s c) .halted }))
 
 abbrev pub without-message : {F : Type 0} → State F → ℕ → State F
 without-message s place = with-messages s (without (s .messages) place)
