@@ -14,8 +14,10 @@ use Rattle.model.specs.declared.reader.Reader.{Reader}
 use Rattle.model.specs.declared.marks.RelayMark.{RelayMark}
 use Rattle.model.specs.declared.messages.Message.{Message}
 use Rattle.model.specs.declared.answers.Reply.{Reply}
-use Rattle.model.specs.State.{State, Held, index, unused, reader, line, mark, held, halted, with-writer, with-reader, with-mark, with-journal, with-held}
-use Rattle.model.specs.Records.{took, acknowledged, writer-freed, best, heard, confirmed, lowered, placing, reader-freed, marked, mark-replied, one-more, ended}
+use Rattle.model.specs.State.{State, Held, index, unused, new-message, reader, line, mark, held, halted}
+use Rattle.model.specs.State.{with-writer, with-reader, with-mark, with-journal, with-held}
+use Rattle.model.specs.Records.{took, acknowledged, writer-freed, best, heard, confirmed, lowered, placing, reader-freed}
+use Rattle.model.specs.Records.{marked, mark-replied, one-more, ended}
 
 -- What a step comes to: its answer, the messages that it sends, and the state before these join the others.
 pub record Effect (F : Type 0) : Type 0 where
@@ -29,11 +31,10 @@ quiet s = record { reply = Reply.Done; sent = []; next = s }
 abbrev pub sending : {F : Type 0} → State F → List (Message F) → Effect F
 sending s l = record { reply = Reply.Done; sent = l; next = s }
 
--- One message to each of the replicas below n, in their order.
+-- One message to each of the replicas below a number, in their order.
 unfoldable pub to-all : {F : Type 0} → ℕ → MessageKind → ℕ → Party → Held F → List (Message F)
 to-all zero kind n from x = []
-to-all (suc c) kind n from x =
-    to-all c kind n from x ++ record { kind = kind; operation = n; sender = from; receiver = Party.Replica c; stamp = x .stamp; figure = x .figure } ∷ []
+to-all (suc c) kind n from x = to-all c kind n from x ++ new-message kind n from (Party.Replica c) x ∷ []
 
 -- What a message carries.
 abbrev pub carried : {F : Type 0} → Message F → Held F
@@ -41,13 +42,15 @@ carried m = record { stamp = m .stamp; figure = m .figure }
 
 -- The answer of m's receiver to the owner of the operation.
 abbrev pub answer : {F : Type 0} → State F → Message F → MessageKind → Held F → Message F
-answer s m kind x = record { kind = kind; operation = m .operation; sender = m .receiver; receiver = (line s (m .operation)) .owner; stamp = x .stamp; figure = x .figure }
+answer s m kind x = new-message kind (m .operation) (m .receiver) ((line s (m .operation)) .owner) x
 
--- Operation n finishes with this after so many exchanges. Its event is the number of lines and finished operations after it.
+-- AN OPERATION FINISHES
 
+-- Its event is the number of lines and finished operations after it.
 abbrev pub finish-event : {F : Type 0} → State F → ℕ
 finish-event s = length (s .journal) + one-more (s .finished)
 
+-- Operation n finishes with x after so many exchanges.
 abbrev pub with-finish : {F : Type 0} → State F → ℕ → Held F → ℕ → State F
 with-finish s n x exchanges =
     with-journal s (set (s .journal) (pred n) (ended (line s n) (finish-event s) x exchanges)) (one-more (s .finished))
@@ -59,10 +62,46 @@ finishing s n x exchanges = record {
   next = with-finish s n x exchanges;
 }
 
+-- TO A REPLICA
+
 -- PUT and BACK: the replica takes what is offered and acknowledges it.
 unfoldable pub on-offer : {F : Type 0} → State F → Message F → MessageKind → Effect F
 on-offer s m ack =
-    sending (with-held s (index (m .receiver)) (took (held s (index (m .receiver))) (carried m))) (answer s m ack (unused (s .start)) ∷ [])
+    sending (with-held s (index (m .receiver)) (took (held s (index (m .receiver))) (carried m)))
+    (answer s m ack (unused (s .start)) ∷ [])
+
+-- QUERY: the replica tells what it holds.
+unfoldable pub on-query : {F : Type 0} → State F → Message F → Effect F
+on-query s m = sending s (answer s m MessageKind.Have (held s (index (m .receiver))) ∷ [])
+
+-- FAN: the replica relays what it holds to every replica, itself too.
+unfoldable pub on-fan : {F : Type 0} → Rule → State F → Message F → Effect F
+on-fan rule s m =
+    sending s (to-all (rule .size) MessageKind.Relay (m .operation) (m .receiver) (held s (index (m .receiver))))
+
+-- RELAY: the replica takes what is relayed, and once a round set has relayed to it for a read, it replies, once, with
+-- what it holds. In these, replica c holds x, and k is the mark that it keeps for reader r.
+
+abbrev pub after-relay : {F : Type 0} → Rule → State F → Message F → ℕ → Held F → ℕ → RelayMark → Effect F
+after-relay rule s m c x r k =
+    cond (rule .round (bits (k .relayers)) && not (k .replied))
+    (sending (with-mark s c r (mark-replied k)) (answer s m MessageKind.Reply x ∷ []))
+    (quiet (with-mark s c r k))
+
+abbrev pub on-relay-at : {F : Type 0} → Rule → State F → Message F → ℕ → Held F → ℕ → RelayMark → Effect F
+on-relay-at rule s m c x r k =
+    cond (ltb (m .operation) (k .operation)) (quiet s)
+    (after-relay rule s m c x r (marked k (m .operation) (index (m .sender))))
+
+abbrev pub on-relay-to : {F : Type 0} → Rule → State F → Message F → ℕ → Held F → ℕ → Effect F
+on-relay-to rule s m c x r = on-relay-at rule (with-held s c x) m c x r (mark s c r)
+
+unfoldable pub on-relay : {F : Type 0} → Rule → State F → Message F → Effect F
+on-relay rule s m =
+    on-relay-to rule s m (index (m .receiver)) (took (held s (index (m .receiver))) (carried m))
+    (index ((line s (m .operation)) .owner))
+
+-- TO THE WRITER
 
 -- PUT-ACK: a write finishes with the stamp and the figure of its line.
 
@@ -73,12 +112,11 @@ unfoldable pub on-put-ack : {F : Type 0} → Rule → State F → Message F → 
 on-put-ack rule s m =
     cond (not (eqb (s .writer .operation) (m .operation))) (quiet s)
     (cond (rule .round (bits (joined (s .writer .acknowledgers) (index (m .sender)))))
-    (finishing (with-writer s (writer-freed (acknowledged (s .writer) (index (m .sender))))) (m .operation) (written s (m .operation)) 2)
+    (finishing (with-writer s (writer-freed (acknowledged (s .writer) (index (m .sender)))))
+    (m .operation) (written s (m .operation)) 2)
     (quiet (with-writer s (acknowledged (s .writer) (index (m .sender))))))
 
--- QUERY: the replica tells what it has.
-unfoldable pub on-query : {F : Type 0} → State F → Message F → Effect F
-on-query s m = sending s (answer s m MessageKind.Have (held s (index (m .receiver))) ∷ [])
+-- TO A READER
 
 -- A reply counts for the reader's current operation, in the phase that it is meant for, once for each sender.
 
@@ -101,13 +139,15 @@ in-relay Phase.Second = false
 in-relay Phase.Relay = true
 
 abbrev pub counts : {F : Type 0} → (Phase → Bool) → Reader F → Message F → Bool
-counts meant d m = eqb (d .operation) (m .operation) && meant (d .phase) && not (bits (d .replies) (index (m .sender)))
+counts meant d m =
+    eqb (d .operation) (m .operation) && meant (d .phase) && not (bits (d .replies) (index (m .sender)))
 
 -- Reader r, now d, finishes its operation with its best.
 abbrev pub read-finishing : {F : Type 0} → State F → ℕ → Reader F → ℕ → Effect F
 read-finishing s r d exchanges = finishing (with-reader s r (reader-freed d)) (d .operation) (best d) exchanges
 
--- HAVE: when the replies are a round set, a quick read whose holders are a hold set finishes, and any other goes on to its second round.
+-- HAVE: when the replies are a round set, a quick read whose holders are a hold set finishes, and any other goes on to
+-- its second round.
 
 abbrev pub is-quick : OperationKind → Bool
 is-quick OperationKind.Write = false
@@ -115,12 +155,17 @@ is-quick (OperationKind.Read ReadKind.Quick) = true
 is-quick (OperationKind.Read ReadKind.Settled) = false
 is-quick (OperationKind.Read ReadKind.Relay) = false
 
+abbrev pub second-round : {F : Type 0} → Rule → State F → ℕ → Reader F → Effect F
+second-round rule s r d =
+    sending (with-reader s r (placing d))
+    (to-all (rule .size) MessageKind.Back (d .operation) (Party.Reader r) (best d))
+
 abbrev pub after-have : {F : Type 0} → Rule → State F → ℕ → Reader F → Effect F
 after-have rule s r d =
     cond (rule .round (bits (d .replies)))
     (cond (is-quick ((line s (d .operation)) .kind) && rule .hold (bits (d .holders)))
     (read-finishing s r d 2)
-    (sending (with-reader s r (placing d)) (to-all (rule .size) MessageKind.Back (d .operation) (Party.Reader r) (best d))))
+    (second-round rule s r d))
     (quiet (with-reader s r d))
 
 abbrev pub on-have-at : {F : Type 0} → Rule → State F → Message F → ℕ → Reader F → Effect F
@@ -150,26 +195,7 @@ on-reply-at rule s m r d =
 unfoldable pub on-reply : {F : Type 0} → Rule → State F → Message F → Effect F
 on-reply rule s m = on-reply-at rule s m (index (m .receiver)) (reader s (index (m .receiver)))
 
--- FAN: the replica relays what it holds to every replica, itself too.
-unfoldable pub on-fan : {F : Type 0} → Rule → State F → Message F → Effect F
-on-fan rule s m = sending s (to-all (rule .size) MessageKind.Relay (m .operation) (m .receiver) (held s (index (m .receiver))))
-
--- RELAY: the replica takes what is relayed, and once a round set has relayed to it for a read, replies once with what it holds.
-
--- s is the state in which replica c holds x; r is the reader, k the mark
-abbrev pub on-relay-at : {F : Type 0} → Rule → State F → Message F → ℕ → Held F → ℕ → RelayMark → Effect F
-on-relay-at rule s m c x r k =
-    cond (ltb (m .operation) (k .operation)) (quiet s)
-    (cond (rule .round (bits ((marked k (m .operation) (index (m .sender))) .relayers)) && not ((marked k (m .operation) (index (m .sender))) .replied))
-    (sending (with-mark s c r (mark-replied (marked k (m .operation) (index (m .sender))))) (answer s m MessageKind.Reply x ∷ []))
-    (quiet (with-mark s c r (marked k (m .operation) (index (m .sender))))))
-
-abbrev pub on-relay-to : {F : Type 0} → Rule → State F → Message F → ℕ → Held F → ℕ → Effect F
-on-relay-to rule s m c x r = on-relay-at rule (with-held s c x) m c x r (mark s c r)
-
-unfoldable pub on-relay : {F : Type 0} → Rule → State F → Message F → Effect F
-on-relay rule s m =
-    on-relay-to rule s m (index (m .receiver)) (took (held s (index (m .receiver))) (carried m)) (index ((line s (m .operation)) .owner))
+-- ANY MESSAGE
 
 unfoldable pub on : {F : Type 0} → Rule → MessageKind → State F → Message F → Effect F
 on rule MessageKind.Put s m = on-offer s m MessageKind.PutAck

@@ -24,8 +24,10 @@ event c o = record { call = c; reply = o .reply; taken = o .taken; sent = o .sen
 
 -- The events lead from a newly commissioned register to this state.
 pub data Grows {F : Type 0} (rule : Rule) (start : F) : History F → State F → Type 0 where
-  begun : (readers message-room journal-room : ℕ) → Grows rule start [] (fresh rule start readers message-room journal-room)
-  more : {h : History F} {s : State F} → Grows rule start h s → (c : Call F) → Grows rule start (h ++ event c (step rule s c) ∷ []) ((step rule s c) .next)
+  begun : (readers message-room journal-room : ℕ)
+      → Grows rule start [] (fresh rule start readers message-room journal-room)
+  more : {h : History F} {s : State F} → Grows rule start h s → (c : Call F)
+      → Grows rule start (h ++ event c (step rule s c) ∷ []) ((step rule s c) .next)
 
 -- The history of a list of calls, and the state after them.
 pub record Run (F : Type 0) : Type 0 where

@@ -18,12 +18,14 @@ use Rattle.model.specs.declared.calls.Call.{Call}
 use Rattle.model.specs.declared.answers.Reply.{Reply}
 use Rattle.model.specs.declared.answers.Refusal.{Refusal}
 use Rattle.model.specs.Stamps.{Stamp, rank, next-stamp}
-use Rattle.model.specs.State.{State, Held, no-line, unused, replica, reader, message, halted, with-writer, with-replicas, with-reader, with-messages, with-journal, without-message}
+use Rattle.model.specs.State.{State, Held, new-line, no-line, unused, replica, reader, message, halted}
+use Rattle.model.specs.State.{with-writer, with-replicas, with-reader, with-messages, with-journal, without-message}
 use Rattle.model.specs.Records.{writing, writer-halted, replica-halted, reading, reader-halted, one-sent}
 use Rattle.model.specs.Sound.{sound}
 use Rattle.model.specs.Deliveries.{Effect, to-all, received}
 
--- What a call comes to: the message that it took out or copied, if any, and those that it sent for an operation. A copy is not sent.
+-- What a call comes to: its answer, the message that it took out or copied, if any, and those that it sent for an
+-- operation. A copy is not sent.
 pub record Outcome (F : Type 0) : Type 0 where
   pub reply : Reply F
   pub taken : List (Message F)
@@ -33,7 +35,7 @@ pub record Outcome (F : Type 0) : Type 0 where
 abbrev pub declined : {F : Type 0} → State F → Refusal → Outcome F
 declined s e = record { reply = Reply.Declined e; taken = []; sent = []; next = s }
 
--- Messages that are sent join the end of those that wait, and each adds one to its operation's count.
+-- MESSAGES THAT ARE SENT join the end of those that wait, and each adds one to its operation's count.
 
 unfoldable pub counted : {F : Type 0} → F → List (Operation F) → List (Message F) → List (Operation F)
 counted f journal [] = journal
@@ -46,14 +48,18 @@ posted s l = with-messages (with-journal s (counted (s .start) (s .journal) l) (
 abbrev pub outcome : {F : Type 0} → List (Message F) → Effect F → Outcome F
 outcome taken e = record { reply = e .reply; taken = taken; sent = e .sent; next = posted (e .next) (e .sent) }
 
--- An operation starts: the next number, and a line. Its event is the number of lines and finished operations after it.
+-- AN OPERATION STARTS
 
 abbrev pub next-number : {F : Type 0} → State F → ℕ
 next-number s = suc (length (s .journal))
 
+-- Its event is the number of lines and finished operations after it.
+abbrev pub start-event : {F : Type 0} → State F → ℕ
+start-event s = next-number s + s .finished
+
 abbrev pub with-line : {F : Type 0} → State F → OperationKind → Party → Held F → State F
 with-line s kind owner x =
-    with-journal s (s .journal ++ record { kind = kind; owner = owner; started = next-number s + s .finished; finished = 0; exchanges = 0; stamp = x .stamp; figure = x .figure; sent = 0 } ∷ []) (s .finished)
+    with-journal s (s .journal ++ new-line kind owner (start-event s) x ∷ []) (s .finished)
 
 abbrev pub to-write : {F : Type 0} → State F → F → Held F
 to-write s f = record { stamp = next-stamp (s .writer .last); figure = f }
@@ -62,7 +68,9 @@ unfoldable pub write : {F : Type 0} → Rule → State F → F → Effect F
 write rule s f = record {
   reply = Reply.Started (next-number s);
   sent = to-all (rule .size) MessageKind.Put (next-number s) Party.Writer (to-write s f);
-  next = with-writer (with-line s OperationKind.Write Party.Writer (to-write s f)) (writing (s .writer) (next-number s) ((to-write s f) .stamp));
+  next =
+      with-writer (with-line s OperationKind.Write Party.Writer (to-write s f))
+      (writing (s .writer) (next-number s) ((to-write s f) .stamp));
 }
 
 abbrev pub opening-phase : ReadKind → Phase
@@ -79,7 +87,9 @@ unfoldable pub read : {F : Type 0} → Rule → State F → ℕ → ReadKind →
 read rule s r kind = record {
   reply = Reply.Started (next-number s);
   sent = to-all (rule .size) (opening-message kind) (next-number s) (Party.Reader r) (unused (s .start));
-  next = with-reader (with-line s (OperationKind.Read kind) (Party.Reader r) (unused (s .start))) r (reading (s .start) (reader s r) (next-number s) (opening-phase kind));
+  next =
+      with-reader (with-line s (OperationKind.Read kind) (Party.Reader r) (unused (s .start))) r
+      (reading (s .start) (reader s r) (next-number s) (opening-phase kind));
 }
 
 unfoldable pub deliver : {F : Type 0} → Rule → State F → ℕ → Effect F
@@ -89,7 +99,12 @@ unfoldable pub dropped : {F : Type 0} → State F → ℕ → Outcome F
 dropped s place = record { reply = Reply.Done; taken = message s place ∷ []; sent = []; next = without-message s place }
 
 unfoldable pub duplicated : {F : Type 0} → State F → ℕ → Outcome F
-duplicated s place = record { reply = Reply.Done; taken = message s place ∷ []; sent = []; next = with-messages s (s .messages ++ message s place ∷ []) }
+duplicated s place = record {
+  reply = Reply.Done;
+  taken = message s place ∷ [];
+  sent = [];
+  next = with-messages s (s .messages ++ message s place ∷ []);
+}
 
 abbrev pub stopped : {F : Type 0} → State F → Party → State F
 stopped s Party.Writer = with-writer s (writer-halted (s .writer))
@@ -108,7 +123,7 @@ done rule s (Call.Drop place) = dropped s place
 done rule s (Call.Duplicate place) = duplicated s place
 done rule s (Call.Halt p) = halt s p
 
--- Why a call is declined before its step is tried: the first of these that holds.
+-- WHY A CALL IS DECLINED before its step is tried: the first of its tests that holds.
 
 abbrev pub absent : {F : Type 0} → Rule → State F → Party → Bool
 absent rule s Party.Writer = false
@@ -160,7 +175,7 @@ first-of (t ∷ ts) = cond (t .0) (Some (t .1)) (first-of ts)
 unfoldable pub refusal : {F : Type 0} → Rule → State F → Call F → Option Refusal
 refusal rule s c = first-of ((not (sound rule s), Refusal.Unsound) ∷ tests rule s c)
 
--- A call that is not declined so far is declined if more messages would wait after it than there is room for.
+-- A CALL NOT DECLINED SO FAR is declined if more messages would wait after it than there is room for.
 
 abbrev pub overfull : {F : Type 0} → State F → Outcome F → Bool
 overfull s o = ltb (s .message-room) (length (o .next .messages))
