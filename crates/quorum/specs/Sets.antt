@@ -23,7 +23,7 @@ unfoldable pub bits : ℕ → Members
 bits mask k = eqb (mask / 2 ^ k % 2) 1
 
 -- The mask with replica k too.
-unfoldable pub joined : ℕ → ℕ → ℕ
+abbrev pub joined : ℕ → ℕ → ℕ
 joined mask k = bitOr mask (2 ^ k)
 
 -- The set with replica i too.

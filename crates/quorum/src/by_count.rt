@@ -1,15 +1,16 @@
 ghost use mathlib.Core.Path.{_≡_};
 ghost use Prim.Native.Nat.{_*_, _<_, _≤_};
 ghost use Rattle.quorum.specs.Sets.{bits, count};
-ghost use Rattle.quorum.specs.Families.{count-rule};
-ghost use Rattle.quorum.specs.Faults.{declined, count-fault};
+ghost use Rattle.quorum.specs.Families.{count-rule as countRule};
+ghost use Rattle.quorum.specs.Refusals.{declined, count-refusal as countRefusal};
 ghost use Rattle.quorum.specs.Laws.{Lawful};
 ghost use Rattle.std.specs.Vec.{made};
-use crate::fault::RuleFault;
 use crate::members::below;
-use crate::quorum::QuorumSystem;
+use crate::refusal::RuleRefusal;
+use crate::system::QuorumSystem;
 
-/// Of `size` replicas at most `faults` fail.
+/// Of `size` replicas at most `faults` fail, less than half of them.
+/// Round: all but `faults` of them at least. Hold: one more than `faults` at least.
 #[derive(Clone, Copy)]
 pub struct Count {
     size: u32,
@@ -18,20 +19,21 @@ pub struct Count {
 }
 
 impl Count {
-    pub fn new(size: u32, faults: u32) -> Result<Count, RuleFault>
-        ensures declines { λ r. ⌜ declined r ≡ count-fault size faults ⌝ }
-        ensures makes { λ r. ⌜ made r (λ v. (v .size ≡ size) × (v .faults ≡ faults) × Lawful (count-rule (v .size) (v .faults))) ⌝ }
+    pub fn new(size: u32, faults: u32) -> Result<Count, RuleRefusal>
+        ensures declines { λ r. ⌜ declined r ≡ countRefusal size faults ⌝ }
+        ensures makes { λ r. ⌜ made r (λ v.
+            (v .size ≡ size) × (v .faults ≡ faults) × Lawful (countRule (v .size) (v .faults))) ⌝ }
     {
         if size == 0 || size > 24 {
-            return Err(RuleFault::OutOfLimits);
+            return Err(RuleRefusal::OutOfLimits);
         }
         if faults >= size || 2 * faults >= size {
-            return Err(RuleFault::TooManyFaults);
+            return Err(RuleRefusal::TooManyFaults);
         }
         Ok(Count { size, faults })
     }
 
-    // How many of the members are replicas.
+    /// How many replicas are among the members.
     fn tally(&self, members: u32) -> u32
         ensures { λ r. ⌜ r ≡ count (bits members) (now (self .entry) .size) ⌝ }
     {
@@ -40,7 +42,11 @@ impl Count {
 }
 
 pub impl QuorumSystem for Count as CountQuorum {
-    ghost rule = { λ s. count-rule (s .size) (s .faults) };
+    ghost size = { λ s. countRule (s .size) (s .faults) .size };
+
+    ghost round = { λ s. countRule (s .size) (s .faults) .round };
+
+    ghost hold = { λ s. countRule (s .size) (s .faults) .hold };
 
     fn size(&self) -> u32 {
         self.size

@@ -7,7 +7,9 @@ ghost use Rattle.quorum.specs.Sets.{Family, bits};
 /// mask whose bit k stands for replica k, and every mask has an answer.
 pub trait QuorumSystem {
     ghost size: { Self → ℕ };
+
     ghost round: { Self → Family };
+
     ghost hold: { Self → Family };
 
     fn size(&self) -> u32

@@ -2,7 +2,7 @@ use native.Mathlib.Omega.{arith}
 use borrow.Author.Needs.{needs}
 use mathlib.Core.Path.{refl}
 use Rattle.std.proofs.shelf.Ways.{tells}
-use Rattle.quorum.proofs.Lawfuls.{count-lawful}
+use Rattle.quorum.proofs.CountLaws.{count-lawful}
 use Rattle.quorum.proofs.by_count.Count.new.Needs as need
 
 pub returns : need.returns

@@ -3,7 +3,8 @@ use mathlib.Core.Path.{_≡_, ap, subst, _∙_}
 use mathlib.Core.Bool.{not}
 use lib.Bits.{bitAnd}
 use lib.Dec.{eqb}
-use Rattle.quorum.proofs.Masks.{full-one, full-more, full-found, place-low, few-columns, Full}
+use Rattle.quorum.proofs.Columns.{full-one, full-more, full-found, Full}
+use Rattle.quorum.proofs.Products.{place-low, few-places}
 use Rattle.quorum.proofs.by_grid.Grid.has_full_column.Needs as need
 
 pub loop-row-holds : need.loop-row-holds
@@ -19,7 +20,7 @@ pub loop-row-again : need.loop-row-again
 loop-row-again c = full-more (c .loop-row .all) (c .args .members) (c .args .self .now .columns) (c .loop-row .row) (c .loop-row .inv)
 
 pub below-requires : need.below-requires
-below-requires c κs = omega (arith, few-columns (c .args .self .now .rows) (c .args .self .now .columns) (c .args .self .now .ok))
+below-requires c κs = omega (arith, few-places (c .args .self .now .rows) (c .args .self .now .columns) (c .args .self .now .ok))
 
 pub returns : need.returns
 returns c =

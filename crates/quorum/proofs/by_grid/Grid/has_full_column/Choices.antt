@@ -1,4 +1,4 @@
-use Rattle.quorum.proofs.Masks.{Full}
+use Rattle.quorum.proofs.Columns.{Full}
 use Rattle.quorum.proofs.by_grid.Grid.has_full_column.Given as given
 
 abbrev pub Inv-loop-row : given.InvT-loop-row

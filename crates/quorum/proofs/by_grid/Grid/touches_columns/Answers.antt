@@ -2,7 +2,8 @@ use native.Mathlib.Omega.{arith}
 use mathlib.Core.Path.{_≡_, ap, subst, _∙_}
 use lib.Bits.{bitAnd}
 use lib.Dec.{eqb}
-use Rattle.quorum.proofs.Masks.{touched-none, touched-more, touched-found, place-low, few-columns, Touched}
+use Rattle.quorum.proofs.Columns.{touched-none, touched-more, touched-found, Touched}
+use Rattle.quorum.proofs.Products.{place-low, few-places}
 use Rattle.quorum.proofs.by_grid.Grid.touches_columns.Needs as need
 
 pub loop-row-holds : need.loop-row-holds
@@ -18,7 +19,7 @@ pub loop-row-again : need.loop-row-again
 loop-row-again c = touched-more (c .loop-row .any) (c .args .members) (c .args .self .now .columns) (c .loop-row .row) (c .loop-row .inv)
 
 pub below-columns-requires : need.below-columns-requires
-below-columns-requires c κs = omega (arith, few-columns (c .args .self .now .rows) (c .args .self .now .columns) (c .args .self .now .ok))
+below-columns-requires c κs = omega (arith, few-places (c .args .self .now .rows) (c .args .self .now .columns) (c .args .self .now .ok))
 
 pub returns : need.returns
 returns c =

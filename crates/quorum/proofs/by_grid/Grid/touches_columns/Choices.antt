@@ -1,4 +1,4 @@
-use Rattle.quorum.proofs.Masks.{Touched}
+use Rattle.quorum.proofs.Columns.{Touched}
 use Rattle.quorum.proofs.by_grid.Grid.touches_columns.Given as given
 
 abbrev pub Inv-loop-row : given.InvT-loop-row

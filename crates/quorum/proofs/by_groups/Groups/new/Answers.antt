@@ -1,6 +1,8 @@
 use borrow.Author.Needs.{needs}
 use mathlib.Core.Path.{refl, sym, _∙_}
-use Rattle.quorum.proofs.Lawfuls.{groups-lawful, limits}
+use Rattle.quorum.specs.Meaning.{rule-of}
+use Rattle.quorum.proofs.GroupLaws.{groups-lawful}
+use Rattle.quorum.proofs.Products.{limits}
 use Rattle.quorum.proofs.by_groups.Groups.new.Needs as need
 
 pub returns : need.returns
@@ -11,8 +13,9 @@ returns g c = record {
     refl,
     c .size-groups .ensures,
     c .size-places .ensures,
-    groups-lawful (c .size-groups .result) (c .size-places .result) (g .O·QuorumSystem .rule (c .args .outer)) (g .I·QuorumSystem .rule (c .args .inner))
+    groups-lawful (c .size-groups .result) (c .size-places .result)
+        (rule-of (g .O·QuorumSystem) (c .args .outer)) (rule-of (g .I·QuorumSystem) (c .args .inner))
         (c .size-groups .ensures) (c .size-places .ensures)
-        (limits (c .size-groups .result) (c .size-places .result) (sym (c .within .ensures) ∙ c .if-not-within .left) .2),
+        (limits (c .size-groups .result) (c .size-places .result) (sym (c .product-fits .ensures) ∙ c .if-not-product-fits .left) .2),
   );
 }

@@ -1,0 +1,4 @@
+pub mod Limited
+pub mod Parting
+pub mod Placed
+pub mod Spelling

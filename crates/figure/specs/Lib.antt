@@ -1,0 +1,9 @@
+pub mod Cursors
+pub mod Faults
+pub mod Fields
+pub mod Limits
+pub mod Numbers
+pub mod Orders
+pub mod Partial
+pub mod Printing
+pub mod Tides
