@@ -1,5 +1,5 @@
 -- For examples that compute: a proof that names `opened` on its `unfolding` line sees through every definition of the steps.
-use Rattle.quorum.specs.Sets.{bits, joined, count, every, some}
+use Rattle.quorum.specs.Sets.{bits, count, every, some}
 use Rattle.model.specs.Stamps.{rank, no-stamp, next-stamp}
 use Rattle.model.specs.State.{without, fresh}
 use Rattle.model.specs.Sound.{each, each-from, sets-within, messages-addressed, messages-booked, readers-placed, sound}
@@ -9,5 +9,5 @@ use Rattle.model.specs.Steps.{counted, write, read, deliver, dropped, duplicat
 use Rattle.model.specs.History.{run}
 
 unfoldable pub opened : Unit {0}
-unfolding bits joined count every some rank no-stamp next-stamp without fresh each each-from sets-within messages-addressed messages-booked readers-placed sound heard lowered marked to-all on-offer on-put-ack on-query on-have on-back-ack on-reply on-fan on-relay on received counted write read deliver dropped duplicated halt done tests refusal step run
+unfolding bits count every some rank no-stamp next-stamp without fresh each each-from sets-within messages-addressed messages-booked readers-placed sound heard lowered marked to-all on-offer on-put-ack on-query on-have on-back-ack on-reply on-fan on-relay on received counted write read deliver dropped duplicated halt done tests refusal step run
 opened = tt
