@@ -1,4 +1,7 @@
-/// Why a call is declined. The number that is returned for each stands in specs/Answers.antt.
+ghost use mathlib.Core.Path.{_≡_};
+ghost use Rattle.model.specs.Answers.{number as numberOf};
+
+/// Why a call is declined.
 #[derive(Clone, Copy, PartialEq, Eq)]
 pub enum Refusal {
     /// A table has not the length that it was commissioned with.
@@ -17,6 +20,25 @@ pub enum Refusal {
     NoMessage,
     /// The message to deliver has a stamp above the writer's last.
     StampAhead,
+}
+
+impl Refusal {
+    /// The number under which the refusal is returned.
+    pub fn number(self) -> u8
+        ensures { λ r. ⌜ r ≡ numberOf self ⌝ }
+    {
+        match self {
+            Refusal::TableLength => 3,
+            Refusal::Unsound => 4,
+            Refusal::NoSuchParty => 5,
+            Refusal::Halted => 6,
+            Refusal::Busy => 7,
+            Refusal::JournalFull => 8,
+            Refusal::NoRoom => 9,
+            Refusal::NoMessage => 10,
+            Refusal::StampAhead => 11,
+        }
+    }
 }
 
 /// What a call answers.
