@@ -1,4 +1,4 @@
--- What was done to a register since it was commissioned.
+-- Histories: what was called on a register since it was commissioned, and what came of it.
 use mathlib.Core.List.{List, [], _∷_, _++_, map}
 use Prim.Native.Nat.{ℕ}
 use Rattle.quorum.specs.Sets.{Rule}
@@ -15,14 +15,14 @@ pub record Event (F : Type 0) : Type 0 where
   pub taken : List (Message F)
   pub sent : List (Message F)
 
--- In the order of the calls. A declined call has its place in it too.
+-- The events in the order of the calls. A declined call has its place among them.
 abbrev pub History : Type 0 → Type 0
 History F = List (Event F)
 
 abbrev pub event : {F : Type 0} → Call F → Outcome F → Event F
 event c o = record { call = c; reply = o .reply; taken = o .taken; sent = o .sent }
 
--- The events lead from a newly commissioned register to this state.
+-- The events lead from a newly commissioned register to this state: whatever is called next, each call does its step.
 pub data Grows {F : Type 0} (rule : Rule) (start : F) : History F → State F → Type 0 where
   begun : (readers message-room journal-room : ℕ)
       → Grows rule start [] (fresh rule start readers message-room journal-room)

@@ -1,4 +1,4 @@
--- Which tables are those of a register in service.
+-- Which tables are sound, that is, may be those of a register in service. A call on any other tables is declined.
 use mathlib.Core.List.{List, [], _∷_}
 use mathlib.Core.Bool.{Bool, true, false, _&&_, _||_, not}
 use Prim.Native.Nat.{ℕ, suc, _^_}
@@ -25,7 +25,7 @@ unfoldable pub each-from : {A : Type 0} → ℕ → (ℕ → A → Bool) → Lis
 each-from n test [] = true
 each-from n test (x ∷ xs) = test n x && each-from (suc n) test xs
 
--- A set names no replica from the size on.
+-- SETS name no replica from the size on.
 
 abbrev pub within : Rule → ℕ → Bool
 within rule mask = ltb mask (2 ^ rule .size)
@@ -39,7 +39,7 @@ mark-within rule k = within rule (k .relayers)
 unfoldable pub sets-within : {F : Type 0} → Rule → State F → Bool
 sets-within rule s = each (reader-within rule) (s .readers) && each (mark-within rule) (s .marks)
 
--- A message's sender and receiver exist and suit its kind, and its operation is in the journal.
+-- A MESSAGE'S PARTIES exist and suit its kind, and its operation is in the journal.
 
 abbrev pub a-writer : Party → Bool
 a-writer Party.Writer = true
@@ -76,7 +76,7 @@ addressed rule s m = suits rule s (m .kind) (m .sender) (m .receiver) && in-jour
 unfoldable pub messages-addressed : {F : Type 0} → Rule → State F → Bool
 messages-addressed rule s = each (addressed rule s) (s .messages)
 
--- A message's line is of the operation that its kind serves, and the owner is one who can have it.
+-- A MESSAGE'S LINE is of the kind of operation that the message serves, and its owner is one who can have it.
 
 abbrev pub is-write : OperationKind → Bool
 is-write OperationKind.Write = true
@@ -120,7 +120,7 @@ booked s kind o = serves kind (o .kind) && owned s (o .kind) (o .owner)
 unfoldable pub messages-booked : {F : Type 0} → State F → Bool
 messages-booked s = each (λ m. booked s (m .kind) (line s (m .operation))) (s .messages)
 
--- A reader is idle with operation 0, or has a read of its own under way.
+-- A READER is idle with operation 0, or has a read of its own under way.
 
 abbrev pub idle : Phase → Bool
 idle Phase.Idle = true
@@ -143,6 +143,8 @@ placed s r d =
 
 unfoldable pub readers-placed : {F : Type 0} → State F → Bool
 readers-placed s = each-from 0 (placed s) (s .readers)
+
+-- ALL OF IT
 
 unfoldable pub sound : {F : Type 0} → Rule → State F → Bool
 sound rule s = sets-within rule s && messages-addressed rule s && messages-booked s && readers-placed s
