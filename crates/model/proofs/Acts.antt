@@ -29,13 +29,15 @@ pub record Takes {F : Type 0} (w : World F) (own offered x : Held F) : Type 0 wh
   pub above-offered : rank (offered .stamp) ≤ rank (x .stamp)
   pub true-figure : True w (x .stamp) (x .figure)
 
-pub takes : {F : Type 0} (w : World F) (own offered : Held F) → True w (own .stamp) (own .figure) → True w (offered .stamp) (offered .figure) → Takes w own offered (took own offered)
+pub takes : {F : Type 0} (w : World F) (own offered : Held F) → True w (own .stamp) (own .figure)
+    → True w (offered .stamp) (offered .figure) → Takes w own offered (took own offered)
 takes w own offered a b =
     cond-both (ltb (rank (own .stamp)) (rank (offered .stamp))) offered own (Takes w own offered)
     (λ e. record { above-own = omega (arith, ltb-true (rank (own .stamp)) (rank (offered .stamp)) e); above-offered = omega arith; true-figure = b })
     (λ e. record { above-own = omega arith; above-offered = ltb-false (rank (own .stamp)) (rank (offered .stamp)) e; true-figure = a })
 
-module _ {F : Type 0} (q : Rule) (R : ℕ) (law : Lawful q) (start : F) (w : World F) (s : State F) (h : History F) (g : Good q R start w s h) where
+module _ {F : Type 0} (q : Rule) (R : ℕ) (law : Lawful q) (start : F) (w : World F) (s : State F) (h : History F)
+    (g : Good q R start w s h) where
   -- Replica c now holds x.
   module _ (c : ℕ) (low : c < q .size) (offered x : Held F) (tk : Takes w (held s c) offered x) where
     abbrev taken-by : Replica F
@@ -48,14 +50,20 @@ module _ {F : Type 0} (q : Rule) (R : ℕ) (law : Lawful q) (start : F) (w : Wor
     bt k = rank ((getD reps k (new-replica (s .start))) .stamp)
 
     rise : (k : ℕ) → w .at k ≤ bt k
-    rise = each-set-all (λ k y. w .at k ≤ rank (y .stamp)) (s .replicas) c taken-by _ (omega (arith, tk .above-own, g .at-is c)) (λ k. omega (arith, g .at-is k))
+    rise =
+        each-set-all (λ k y. w .at k ≤ rank (y .stamp)) (s .replicas) c taken-by _
+        (omega (arith, tk .above-own, g .at-is c)) (λ k. omega (arith, g .at-is k))
 
-    truths : (k : ℕ) → True w ((getD reps k (new-replica (s .start))) .stamp) ((getD reps k (new-replica (s .start))) .figure)
-    truths = each-set-all (λ k y. True w (y .stamp) (y .figure)) (s .replicas) c taken-by _ (tk .true-figure) (g .figures)
+    truths : (k : ℕ)
+        → True w ((getD reps k (new-replica (s .start))) .stamp) ((getD reps k (new-replica (s .start))) .figure)
+    truths =
+        each-set-all (λ k y. True w (y .stamp) (y .figure)) (s .replicas) c taken-by _ (tk .true-figure) (g .figures)
 
     -- Its stamp is now that of what it holds.
     pub there : bt c ≡ rank (x .stamp)
-    there = ap (λ y. rank (y .stamp)) (get-set (s .replicas) c taken-by (new-replica (s .start)) (omega (arith, g .replicas-are)))
+    there =
+        ap (λ y. rank (y .stamp))
+        (get-set (s .replicas) c taken-by (new-replica (s .start)) (omega (arith, g .replicas-are)))
 
     pub covers : rank (offered .stamp) ≤ bt c
     covers = omega (arith, there, tk .above-offered)
@@ -72,7 +80,8 @@ module _ {F : Type 0} (q : Rule) (R : ℕ) (law : Lawful q) (start : F) (w : Wor
     pub old-marks₂ : (i : ℕ) → MarkGood v₂ (i / R) (getD (s .marks) i new-mark)
     old-marks₂ i = mark-later q R start w v₂ up₂ (i / R) (getD (s .marks) i new-mark) (g .marks i)
 
-    pub raises : (k : List RelayMark) (e : Event F) → ((i : ℕ) → MarkGood v₂ (i / R) (getD k i new-mark)) → Told q R v₂ (length h) e
+    pub raises : (k : List RelayMark) (e : Event F) → ((i : ℕ) → MarkGood v₂ (i / R) (getD k i new-mark))
+        → Told q R v₂ (length h) e
         → Good q R start v₂ (with-marks (with-held s c x) k) (h ++ e ∷ [])
     raises k e marks told =
         advance q R start w v₂ up₂ s _ h e g (record {
@@ -88,7 +97,9 @@ module _ {F : Type 0} (q : Rule) (R : ℕ) (law : Lawful q) (start : F) (w : Wor
           marks = marks;
           readers-are = g .readers-are;
           readers = λ r. phase-later q R start w v₂ up₂ r (λ j b e. refl) _ _ (g .readers r);
-          writer = writing-later q R start w v₂ up₂ (λ j b e. refl) (s .writer .operation) (s .writer .acknowledgers) (g .writer);
+          writer =
+              writing-later q R start w v₂ up₂ (λ j b e. refl) (s .writer .operation) (s .writer .acknowledgers)
+              (g .writer);
           lines = λ j. line-later q R start w v₂ up₂ (g .core) j (line s j) (g .lines j);
           at-work = g .at-work;
           told = told;
@@ -100,8 +111,10 @@ module _ {F : Type 0} (q : Rule) (R : ℕ) (law : Lawful q) (start : F) (w : Wor
     abbrev K : Effect F → Type 0
     K = Kept q R start h (delivery place taken)
 
-    took-by : (m : Message F) → Store q w m → Takes w (held s (index (m .receiver))) (carried m) (took (held s (index (m .receiver))) (carried m))
-    took-by m x = takes w (held s (index (m .receiver))) (carried m) (g .figures (index (m .receiver))) (x .true-figure)
+    took-by : (m : Message F) → Store q w m
+        → Takes w (held s (index (m .receiver))) (carried m) (took (held s (index (m .receiver))) (carried m))
+    took-by m x =
+        takes w (held s (index (m .receiver))) (carried m) (g .figures (index (m .receiver))) (x .true-figure)
 
     pub kept-put : (m : Message F) → Store q w m → K (on-offer s m MessageKind.PutAck)
     unfolding on-offer
@@ -110,7 +123,8 @@ module _ {F : Type 0} (q : Rule) (R : ℕ) (law : Lawful q) (start : F) (w : Wor
         record {
           world = v₂ c (x .to-low) (carried m) _ (took-by m x);
           good =
-              raises c (x .to-low) (carried m) _ (took-by m x) (s .marks) _ (old-marks₂ c (x .to-low) (carried m) _ (took-by m x))
+              raises c (x .to-low) (carried m) _ (took-by m x) (s .marks) _
+              (old-marks₂ c (x .to-low) (carried m) _ (took-by m x))
               (record {
                 answers = tt;
                 sent-says = (
@@ -131,7 +145,8 @@ module _ {F : Type 0} (q : Rule) (R : ℕ) (law : Lawful q) (start : F) (w : Wor
         record {
           world = v₂ c (x .to-low) (carried m) _ (took-by m x);
           good =
-              raises c (x .to-low) (carried m) _ (took-by m x) (s .marks) _ (old-marks₂ c (x .to-low) (carried m) _ (took-by m x))
+              raises c (x .to-low) (carried m) _ (took-by m x) (s .marks) _
+              (old-marks₂ c (x .to-low) (carried m) _ (took-by m x))
               (record {
                 answers = tt;
                 sent-says = (

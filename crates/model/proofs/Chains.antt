@@ -80,23 +80,37 @@ module _ {F : Type 0} where
   abbrev pub Due : List (Message F) → MessageKind → MessageKind → ℕ → ℕ → ℕ → Type 0
   Due t a b j got c = (WaitsTo t a j c ⊎ WaitsFrom t b j c) ⊎ (bits got c ≡ true)
 
-  pub waits-all : (size : ℕ) (k : MessageKind) (n : ℕ) (from : Party) (x : Held F) (c : ℕ) → c < size → WaitsTo (to-all size k n from x) k n c
-  waits-all size k n from x c l = record { what = one k n from x c; there = in-to-all k n from x size c l; is = record { kind-is = refl; operation-is = refl; receiver-is = refl } }
+  pub waits-all : (size : ℕ) (k : MessageKind) (n : ℕ) (from : Party) (x : Held F) (c : ℕ) → c < size
+      → WaitsTo (to-all size k n from x) k n c
+  waits-all size k n from x c l = record {
+    what = one k n from x c;
+    there = in-to-all k n from x size c l;
+    is = record { kind-is = refl; operation-is = refl; receiver-is = refl };
+  }
 
-  pub relays-all : (size n c : ℕ) (x : Held F) (from : Party) → index from ≡ c → (i : ℕ) → i < size → Relays (to-all size MessageKind.Relay n from x) n c i
-  relays-all size n c x from e i l = record { what = one MessageKind.Relay n from x i; there = in-to-all MessageKind.Relay n from x size i l; is = record { kind-is = refl; operation-is = refl; receiver-is = refl }; sender-is = e }
+  pub relays-all : (size n c : ℕ) (x : Held F) (from : Party) → index from ≡ c → (i : ℕ) → i < size
+      → Relays (to-all size MessageKind.Relay n from x) n c i
+  relays-all size n c x from e i l = record {
+    what = one MessageKind.Relay n from x i;
+    there = in-to-all MessageKind.Relay n from x size i l;
+    is = record { kind-is = refl; operation-is = refl; receiver-is = refl };
+    sender-is = e;
+  }
 
   module _ (q : Rule) (start : F) (j : ℕ) where
     pub record Exchange (l : List (Replica F)) (t : List (Message F)) (a b : MessageKind) (got : ℕ) : Type 0 where
       pub unfinished : q .round (bits got) ≡ false
       pub due : (c : ℕ) → c < q .size → Awake start l c → Due t a b j got c
 
-    pub record RelayLive (R : ℕ) (ks : List RelayMark) (l : List (Replica F)) (t : List (Message F)) (r got : ℕ) : Type 0 where
+    pub record RelayLive (R : ℕ) (ks : List RelayMark) (l : List (Replica F)) (t : List (Message F)) (r got : ℕ) :
+        Type 0 where
       pub unfinished : q .round (bits got) ≡ false
       pub asked : (c : ℕ) → c < q .size → Awake start l c
           → WaitsTo t MessageKind.Fan j c ⊎ ((i : ℕ) → i < q .size → Awake start l i → Relays t j c i ⊎ Noted R ks j r c i)
-      pub rounds : (i : ℕ) → (mark-at R ks i r) .operation ≡ j → q .round (bits ((mark-at R ks i r) .relayers)) ≡ true → (mark-at R ks i r) .replied ≡ true
-      pub answers : (i : ℕ) → (mark-at R ks i r) .operation ≡ j → (mark-at R ks i r) .replied ≡ true → Awake start l i → WaitsFrom t MessageKind.Reply j i ⊎ (bits got i ≡ true)
+      pub rounds : (i : ℕ) → (mark-at R ks i r) .operation ≡ j → q .round (bits ((mark-at R ks i r) .relayers)) ≡ true
+          → (mark-at R ks i r) .replied ≡ true
+      pub answers : (i : ℕ) → (mark-at R ks i r) .operation ≡ j → (mark-at R ks i r) .replied ≡ true → Awake start l i
+          → WaitsFrom t MessageKind.Reply j i ⊎ (bits got i ≡ true)
       pub low : (i : ℕ) → (mark-at R ks i r) .operation ≤ j
 
     abbrev pub ReaderLive : ℕ → List RelayMark → List (Replica F) → List (Message F) → ℕ → Phase → ℕ → Type 0
@@ -108,13 +122,16 @@ module _ {F : Type 0} where
     abbrev pub AtIt : ℕ → List RelayMark → List (Replica F) → List (Message F) → ℕ → Reader F → Type 0
     AtIt R ks l t r d = d .operation ≡ j → d .halted ≡ false → ReaderLive R ks l t r (d .phase) (d .replies)
 
-    pub record Live (R : ℕ) (l : List (Replica F)) (t : List (Message F)) (ds : List (Reader F)) (ks : List RelayMark) (wr : Writer) : Type 0 where
+    pub record Live (R : ℕ) (l : List (Replica F)) (t : List (Message F)) (ds : List (Reader F)) (ks : List RelayMark)
+        (wr : Writer) : Type 0 where
       pub sized-marks : length ks ≡ q .size * R
-      pub writer-live : wr .operation ≡ j → wr .halted ≡ false → Exchange l t MessageKind.Put MessageKind.PutAck (wr .acknowledgers)
+      pub writer-live : wr .operation ≡ j → wr .halted ≡ false
+          → Exchange l t MessageKind.Put MessageKind.PutAck (wr .acknowledgers)
       pub reader-live : (r : ℕ) → AtIt R ks l t r (getD ds r (new-reader start))
 
     -- At most the message m₀ went, and no replica came to work.
-    pub record Passes (l : List (Replica F)) (t : List (Message F)) (l′ : List (Replica F)) (t′ : List (Message F)) (m₀ : Message F) : Type 0 where
+    pub record Passes (l : List (Replica F)) (t : List (Message F)) (l′ : List (Replica F)) (t′ : List (Message F))
+        (m₀ : Message F) : Type 0 where
       pub keeps : (m : Message F) → In m t → In m t′ ⊎ (m ≡ m₀)
       pub awake : (c : ℕ) → Awake start l′ c → Awake start l c
 
@@ -124,21 +141,25 @@ module _ {F : Type 0} where
 
     module _ (l′ : List (Replica F)) (t′ : List (Message F)) (m₀ : Message F) (a b : MessageKind) (got : ℕ) where
       -- m₀ was of another exchange.
-      pub no-swap : (kind-code (m₀ .kind) ≡ kind-code a → ⊥) → (kind-code (m₀ .kind) ≡ kind-code b → ⊥) → Swaps l′ t′ m₀ a b got
-      no-swap na nb c y k = elim y [ inl i ↦ absurd (na (ap kind-code (i .kind-is))) | inr i ↦ absurd (nb (ap kind-code (i .kind-is))) ]
+      pub no-swap : (kind-code (m₀ .kind) ≡ kind-code a → ⊥) → (kind-code (m₀ .kind) ≡ kind-code b → ⊥)
+          → Swaps l′ t′ m₀ a b got
+      no-swap na nb c y k =
+          elim y [ inl i ↦ absurd (na (ap kind-code (i .kind-is))) | inr i ↦ absurd (nb (ap kind-code (i .kind-is))) ]
 
       pub no-operation : (m₀ .operation ≡ j → ⊥) → Swaps l′ t′ m₀ a b got
       no-operation n c y k = elim y [ inl i ↦ absurd (n (i .operation-is)) | inr i ↦ absurd (n (i .operation-is)) ]
 
       -- m₀ was a request, and is answered.
-      pub answered : (kind-code (m₀ .kind) ≡ kind-code b → ⊥) → (y : Message F) → In y t′ → y .kind ≡ b → y .operation ≡ m₀ .operation → y .sender ≡ m₀ .receiver → Swaps l′ t′ m₀ a b got
+      pub answered : (kind-code (m₀ .kind) ≡ kind-code b → ⊥) → (y : Message F) → In y t′ → y .kind ≡ b
+          → y .operation ≡ m₀ .operation → y .sender ≡ m₀ .receiver → Swaps l′ t′ m₀ a b got
       answered nb y i k o f c z _ = elim z [
         | inr d ↦ absurd (nb (ap kind-code (d .kind-is)))
         | inl d ↦ inl (inr (record { what = y; there = i; is = record { kind-is = k; operation-is = o ∙ d .operation-is; sender-is = ap index (f ∙ d .receiver-is) } }))
       ]
 
       -- m₀ was an answer, and has been counted.
-      pub counted : (kind-code (m₀ .kind) ≡ kind-code a → ⊥) → (m₀ .operation ≡ j → bits got (index (m₀ .sender)) ≡ true) → Swaps l′ t′ m₀ a b got
+      pub counted : (kind-code (m₀ .kind) ≡ kind-code a → ⊥)
+          → (m₀ .operation ≡ j → bits got (index (m₀ .sender)) ≡ true) → Swaps l′ t′ m₀ a b got
       counted na h c z _ = elim z [
         | inl i ↦ absurd (na (ap kind-code (i .kind-is)))
         | inr i ↦ inr (subst (λ n. bits got n ≡ true) (i .sender-is) (h (i .operation-is)))
@@ -149,16 +170,21 @@ module _ {F : Type 0} where
       pub record RelaySwaps (R : ℕ) (ks ks′ : List RelayMark) (r got′ : ℕ) : Type 0 where
         pub fan : (c : ℕ) → To m₀ MessageKind.Fan j c → Awake start l′ c
             → WaitsTo t′ MessageKind.Fan j c ⊎ ((i : ℕ) → i < q .size → Awake start l′ i → Relays t′ j c i ⊎ Noted R ks′ j r c i)
-        pub relay : (c i : ℕ) → To m₀ MessageKind.Relay j i → index (m₀ .sender) ≡ c → Awake start l′ i → Relays t′ j c i ⊎ Noted R ks′ j r c i
-        pub reply : (i : ℕ) → From m₀ MessageKind.Reply j i → WaitsFrom t′ MessageKind.Reply j i ⊎ (bits got′ i ≡ true)
+        pub relay : (c i : ℕ) → To m₀ MessageKind.Relay j i → index (m₀ .sender) ≡ c → Awake start l′ i
+            → Relays t′ j c i ⊎ Noted R ks′ j r c i
+        pub reply : (i : ℕ) → From m₀ MessageKind.Reply j i
+            → WaitsFrom t′ MessageKind.Reply j i ⊎ (bits got′ i ≡ true)
         pub noted : (c i : ℕ) → Noted R ks j r c i → Noted R ks′ j r c i
-        pub rounds : (i : ℕ) → (mark-at R ks′ i r) .operation ≡ j → q .round (bits ((mark-at R ks′ i r) .relayers)) ≡ true → (mark-at R ks′ i r) .replied ≡ true
-        pub replied : (i : ℕ) → (mark-at R ks′ i r) .operation ≡ j → (mark-at R ks′ i r) .replied ≡ true → Awake start l′ i
+        pub rounds : (i : ℕ) → (mark-at R ks′ i r) .operation ≡ j
+            → q .round (bits ((mark-at R ks′ i r) .relayers)) ≡ true → (mark-at R ks′ i r) .replied ≡ true
+        pub replied : (i : ℕ) → (mark-at R ks′ i r) .operation ≡ j → (mark-at R ks′ i r) .replied ≡ true
+            → Awake start l′ i
             → (((mark-at R ks i r) .operation ≡ j) × ((mark-at R ks i r) .replied ≡ true)) ⊎ WaitsFrom t′ MessageKind.Reply j i
         pub low : (i : ℕ) → (mark-at R ks′ i r) .operation ≤ j
 
       -- m₀ was no message of a relayed read, or of another operation; the marks are the same.
-      pub plain : (R : ℕ) (ks : List RelayMark) (r got : ℕ) → (6 ≤ kind-code (m₀ .kind) → m₀ .operation ≡ j → ⊥) → (l : List (Replica F)) (t : List (Message F)) → RelayLive R ks l t r got → RelaySwaps R ks ks r got
+      pub plain : (R : ℕ) (ks : List RelayMark) (r got : ℕ) → (6 ≤ kind-code (m₀ .kind) → m₀ .operation ≡ j → ⊥)
+          → (l : List (Replica F)) (t : List (Message F)) → RelayLive R ks l t r got → RelaySwaps R ks ks r got
       plain R ks r got n l t e = record {
         fan = λ c y _. absurd (n (omega (arith, ap kind-code (y .kind-is))) (y .operation-is));
         relay = λ c i y _ _. absurd (n (omega (arith, ap kind-code (y .kind-is))) (y .operation-is));
@@ -169,9 +195,11 @@ module _ {F : Type 0} where
         low = e .low;
       }
 
-    module _ (l : List (Replica F)) (t : List (Message F)) (l′ : List (Replica F)) (t′ : List (Message F)) (m₀ : Message F) (p : Passes l t l′ t′ m₀) where
+    module _ (l : List (Replica F)) (t : List (Message F)) (l′ : List (Replica F)) (t′ : List (Message F))
+        (m₀ : Message F) (p : Passes l t l′ t′ m₀) where
       pub carry : (a b : MessageKind) (got got′ : ℕ) → Swaps l′ t′ m₀ a b got′
-          → q .round (bits got′) ≡ false → ((c : ℕ) → bits got c ≡ true → bits got′ c ≡ true) → Exchange l t a b got → Exchange l′ t′ a b got′
+          → q .round (bits got′) ≡ false → ((c : ℕ) → bits got c ≡ true → bits got′ c ≡ true) → Exchange l t a b got
+          → Exchange l′ t′ a b got′
       carry a b got got′ w o more e = record {
         unfinished = o;
         due = λ c n k. elim (e .due c n (p .awake c k)) [
@@ -234,12 +262,17 @@ module _ {F : Type 0} where
               → (in-relay ph ≡ true → RelayLive R ks l t r (d .replies) → RelaySwaps l′ t′ m₀ R ks ks′ r (d .replies))
               → ReaderLive R ks l t r ph (d .replies) → ReaderLive R ks′ l′ t′ r ph (d .replies)
           go Phase.Idle a b c y = y
-          go Phase.First a b c y = carry MessageKind.Query MessageKind.Have (d .replies) (d .replies) (a refl) (y .unfinished) (λ _ i. i) y
-          go Phase.Second a b c y = carry MessageKind.Back MessageKind.BackAck (d .replies) (d .replies) (b refl) (y .unfinished) (λ _ i. i) y
-          go Phase.Relay a b c y = relay-carry R ks ks′ r (d .replies) (d .replies) (c refl y) (y .unfinished) (λ _ i. i) y
+          go Phase.First a b c y =
+              carry MessageKind.Query MessageKind.Have (d .replies) (d .replies) (a refl) (y .unfinished) (λ _ i. i) y
+          go Phase.Second a b c y =
+              carry MessageKind.Back MessageKind.BackAck (d .replies) (d .replies) (b refl) (y .unfinished) (λ _ i. i)
+              y
+          go Phase.Relay a b c y =
+              relay-carry R ks ks′ r (d .replies) (d .replies) (c refl y) (y .unfinished) (λ _ i. i) y
 
       pub writer-carry : (wr : Writer)
           → (wr .operation ≡ j → wr .halted ≡ false → Swaps l′ t′ m₀ MessageKind.Put MessageKind.PutAck (wr .acknowledgers))
           → (wr .operation ≡ j → wr .halted ≡ false → Exchange l t MessageKind.Put MessageKind.PutAck (wr .acknowledgers))
-          → wr .operation ≡ j → wr .halted ≡ false → Exchange l′ t′ MessageKind.Put MessageKind.PutAck (wr .acknowledgers)
+          → wr .operation ≡ j → wr .halted ≡ false
+          → Exchange l′ t′ MessageKind.Put MessageKind.PutAck (wr .acknowledgers)
       writer-carry wr sw x o k = let y = x o k in carry MessageKind.Put MessageKind.PutAck (wr .acknowledgers) (wr .acknowledgers) (sw o k) (y .unfinished) (λ _ i. i) y

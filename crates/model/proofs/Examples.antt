@@ -27,12 +27,14 @@ played {F} rule start readers message-room journal-room calls =
 -- A quick read that finds a write half done, and puts it back.
 listing-calls : List (Call (ℕ × ℕ))
 listing-calls =
-    Call.Write (1250, 480) ∷ Call.Deliver 0 ∷ Call.Read 0 ReadKind.Quick ∷ Call.Deliver 3 ∷ Call.Deliver 3 ∷ Call.Deliver 4 ∷ Call.Deliver 4 ∷
+    Call.Write (1250, 480) ∷ Call.Deliver 0 ∷ Call.Read 0 ReadKind.Quick ∷ Call.Deliver 3 ∷ Call.Deliver 3 ∷
+    Call.Deliver 4 ∷ Call.Deliver 4 ∷
     Call.Deliver 4 ∷ Call.Deliver 4 ∷ Call.Deliver 5 ∷ Call.Deliver 5 ∷ Call.Write (1260, 490) ∷ []
 
 listing-replies : List (Reply (ℕ × ℕ))
 listing-replies =
-    Reply.Started 1 ∷ Reply.Done ∷ Reply.Started 2 ∷ Reply.Done ∷ Reply.Done ∷ Reply.Done ∷ Reply.Done ∷ Reply.Done ∷ Reply.Done ∷ Reply.Done ∷
+    Reply.Started 1 ∷ Reply.Done ∷ Reply.Started 2 ∷ Reply.Done ∷ Reply.Done ∷ Reply.Done ∷ Reply.Done ∷ Reply.Done ∷
+    Reply.Done ∷ Reply.Done ∷
     Reply.Finished 2 1 (1250, 480) 10 4 ∷ Reply.Declined Refusal.Busy ∷ []
 
 listing-end : State (ℕ × ℕ)
@@ -47,8 +49,10 @@ listing-end = record {
       ∷ record { stamp = 0; figure = (0, 0); halted = false }
       ∷ [];
   readers =
-      record { halted = false; operation = 0; phase = Phase.Idle; replies = 3; «best_stamp» = 1; «best_figure» = (1250, 480); holders = 1 }
-      ∷ record { halted = false; operation = 0; phase = Phase.Idle; replies = 0; «best_stamp» = 0; «best_figure» = (0, 0); holders = 0 }
+      record
+      { halted = false; operation = 0; phase = Phase.Idle; replies = 3; «best_stamp» = 1; «best_figure» = (1250, 480); holders = 1 }
+      ∷ record
+      { halted = false; operation = 0; phase = Phase.Idle; replies = 0; «best_stamp» = 0; «best_figure» = (0, 0); holders = 0 }
       ∷ [];
   marks =
       record { operation = 0; relayers = 0; replied = false }
@@ -59,15 +63,22 @@ listing-end = record {
       ∷ record { operation = 0; relayers = 0; replied = false }
       ∷ [];
   messages =
-      record { kind = MessageKind.Put; operation = 1; sender = Party.Writer; receiver = (Party.Replica 1); stamp = 1; figure = (1250, 480) }
-      ∷ record { kind = MessageKind.Put; operation = 1; sender = Party.Writer; receiver = (Party.Replica 2); stamp = 1; figure = (1250, 480) }
-      ∷ record { kind = MessageKind.PutAck; operation = 1; sender = (Party.Replica 0); receiver = Party.Writer; stamp = 0; figure = (0, 0) }
-      ∷ record { kind = MessageKind.Query; operation = 2; sender = (Party.Reader 0); receiver = (Party.Replica 2); stamp = 0; figure = (0, 0) }
-      ∷ record { kind = MessageKind.Back; operation = 2; sender = (Party.Reader 0); receiver = (Party.Replica 2); stamp = 1; figure = (1250, 480) }
+      record
+      { kind = MessageKind.Put; operation = 1; sender = Party.Writer; receiver = (Party.Replica 1); stamp = 1; figure = (1250, 480) }
+      ∷ record
+      { kind = MessageKind.Put; operation = 1; sender = Party.Writer; receiver = (Party.Replica 2); stamp = 1; figure = (1250, 480) }
+      ∷ record
+      { kind = MessageKind.PutAck; operation = 1; sender = (Party.Replica 0); receiver = Party.Writer; stamp = 0; figure = (0, 0) }
+      ∷ record
+      { kind = MessageKind.Query; operation = 2; sender = (Party.Reader 0); receiver = (Party.Replica 2); stamp = 0; figure = (0, 0) }
+      ∷ record
+      { kind = MessageKind.Back; operation = 2; sender = (Party.Reader 0); receiver = (Party.Replica 2); stamp = 1; figure = (1250, 480) }
       ∷ [];
   journal =
-      record { kind = OperationKind.Write; owner = Party.Writer; started = 1; finished = 0; exchanges = 0; stamp = 1; figure = (1250, 480); sent = 4 }
-      ∷ record { kind = OperationKind.Read ReadKind.Quick; owner = (Party.Reader 0); started = 2; finished = 3; exchanges = 4; stamp = 1; figure = (1250, 480); sent = 10 }
+      record
+      { kind = OperationKind.Write; owner = Party.Writer; started = 1; finished = 0; exchanges = 0; stamp = 1; figure = (1250, 480); sent = 4 }
+      ∷ record
+      { kind = OperationKind.Read ReadKind.Quick; owner = (Party.Reader 0); started = 2; finished = 3; exchanges = 4; stamp = 1; figure = (1250, 480); sent = 10 }
       ∷ [];
   finished = 1;
 }
@@ -95,14 +106,16 @@ lone-end = record {
       record { stamp = 0; figure = 5; halted = false }
       ∷ [];
   readers =
-      record { halted = false; operation = 0; phase = Phase.Idle; replies = 1; «best_stamp» = 0; «best_figure» = 5; holders = 0 }
+      record
+      { halted = false; operation = 0; phase = Phase.Idle; replies = 1; «best_stamp» = 0; «best_figure» = 5; holders = 0 }
       ∷ [];
   marks =
       record { operation = 1; relayers = 1; replied = true }
       ∷ [];
   messages = [];
   journal =
-      record { kind = OperationKind.Read ReadKind.Relay; owner = (Party.Reader 0); started = 1; finished = 2; exchanges = 3; stamp = 0; figure = 5; sent = 3 }
+      record
+      { kind = OperationKind.Read ReadKind.Relay; owner = (Party.Reader 0); started = 1; finished = 2; exchanges = 3; stamp = 0; figure = 5; sent = 3 }
       ∷ [];
   finished = 1;
 }
@@ -132,7 +145,8 @@ cramped-end = record {
       ∷ record { stamp = 0; figure = 5; halted = false }
       ∷ [];
   readers =
-      record { halted = false; operation = 0; phase = Phase.Idle; replies = 0; «best_stamp» = 0; «best_figure» = 5; holders = 0 }
+      record
+      { halted = false; operation = 0; phase = Phase.Idle; replies = 0; «best_stamp» = 0; «best_figure» = 5; holders = 0 }
       ∷ [];
   marks =
       record { operation = 0; relayers = 0; replied = false }
@@ -140,12 +154,16 @@ cramped-end = record {
       ∷ record { operation = 0; relayers = 0; replied = false }
       ∷ [];
   messages =
-      record { kind = MessageKind.Put; operation = 1; sender = Party.Writer; receiver = (Party.Replica 1); stamp = 1; figure = 7 }
-      ∷ record { kind = MessageKind.Put; operation = 1; sender = Party.Writer; receiver = (Party.Replica 2); stamp = 1; figure = 7 }
-      ∷ record { kind = MessageKind.PutAck; operation = 1; sender = (Party.Replica 0); receiver = Party.Writer; stamp = 0; figure = 5 }
+      record
+      { kind = MessageKind.Put; operation = 1; sender = Party.Writer; receiver = (Party.Replica 1); stamp = 1; figure = 7 }
+      ∷ record
+      { kind = MessageKind.Put; operation = 1; sender = Party.Writer; receiver = (Party.Replica 2); stamp = 1; figure = 7 }
+      ∷ record
+      { kind = MessageKind.PutAck; operation = 1; sender = (Party.Replica 0); receiver = Party.Writer; stamp = 0; figure = 5 }
       ∷ [];
   journal =
-      record { kind = OperationKind.Write; owner = Party.Writer; started = 1; finished = 0; exchanges = 0; stamp = 1; figure = 7; sent = 4 }
+      record
+      { kind = OperationKind.Write; owner = Party.Writer; started = 1; finished = 0; exchanges = 0; stamp = 1; figure = 7; sent = 4 }
       ∷ [];
   finished = 0;
 }
@@ -157,11 +175,13 @@ cramped = refl
 -- Room for six: a write and a read fill it, a delivery still goes on, and a copy has to wait for a drop.
 full-calls : List (Call ℕ)
 full-calls =
-    Call.Write 7 ∷ Call.Read 0 ReadKind.Quick ∷ Call.Deliver 0 ∷ Call.Duplicate 0 ∷ Call.Drop 1 ∷ Call.Duplicate 0 ∷ Call.Duplicate 0 ∷ []
+    Call.Write 7 ∷ Call.Read 0 ReadKind.Quick ∷ Call.Deliver 0 ∷ Call.Duplicate 0 ∷ Call.Drop 1 ∷ Call.Duplicate 0 ∷
+    Call.Duplicate 0 ∷ []
 
 full-replies : List (Reply ℕ)
 full-replies =
-    Reply.Started 1 ∷ Reply.Started 2 ∷ Reply.Done ∷ Reply.Declined Refusal.NoRoom ∷ Reply.Done ∷ Reply.Done ∷ Reply.Declined Refusal.NoRoom ∷ []
+    Reply.Started 1 ∷ Reply.Started 2 ∷ Reply.Done ∷ Reply.Declined Refusal.NoRoom ∷ Reply.Done ∷ Reply.Done ∷
+    Reply.Declined Refusal.NoRoom ∷ []
 
 full-end : State ℕ
 full-end = record {
@@ -175,7 +195,8 @@ full-end = record {
       ∷ record { stamp = 0; figure = 5; halted = false }
       ∷ [];
   readers =
-      record { halted = false; operation = 2; phase = Phase.First; replies = 0; «best_stamp» = 0; «best_figure» = 5; holders = 0 }
+      record
+      { halted = false; operation = 2; phase = Phase.First; replies = 0; «best_stamp» = 0; «best_figure» = 5; holders = 0 }
       ∷ [];
   marks =
       record { operation = 0; relayers = 0; replied = false }
@@ -183,16 +204,24 @@ full-end = record {
       ∷ record { operation = 0; relayers = 0; replied = false }
       ∷ [];
   messages =
-      record { kind = MessageKind.Put; operation = 1; sender = Party.Writer; receiver = (Party.Replica 1); stamp = 1; figure = 7 }
-      ∷ record { kind = MessageKind.Query; operation = 2; sender = (Party.Reader 0); receiver = (Party.Replica 0); stamp = 0; figure = 5 }
-      ∷ record { kind = MessageKind.Query; operation = 2; sender = (Party.Reader 0); receiver = (Party.Replica 1); stamp = 0; figure = 5 }
-      ∷ record { kind = MessageKind.Query; operation = 2; sender = (Party.Reader 0); receiver = (Party.Replica 2); stamp = 0; figure = 5 }
-      ∷ record { kind = MessageKind.PutAck; operation = 1; sender = (Party.Replica 0); receiver = Party.Writer; stamp = 0; figure = 5 }
-      ∷ record { kind = MessageKind.Put; operation = 1; sender = Party.Writer; receiver = (Party.Replica 1); stamp = 1; figure = 7 }
+      record
+      { kind = MessageKind.Put; operation = 1; sender = Party.Writer; receiver = (Party.Replica 1); stamp = 1; figure = 7 }
+      ∷ record
+      { kind = MessageKind.Query; operation = 2; sender = (Party.Reader 0); receiver = (Party.Replica 0); stamp = 0; figure = 5 }
+      ∷ record
+      { kind = MessageKind.Query; operation = 2; sender = (Party.Reader 0); receiver = (Party.Replica 1); stamp = 0; figure = 5 }
+      ∷ record
+      { kind = MessageKind.Query; operation = 2; sender = (Party.Reader 0); receiver = (Party.Replica 2); stamp = 0; figure = 5 }
+      ∷ record
+      { kind = MessageKind.PutAck; operation = 1; sender = (Party.Replica 0); receiver = Party.Writer; stamp = 0; figure = 5 }
+      ∷ record
+      { kind = MessageKind.Put; operation = 1; sender = Party.Writer; receiver = (Party.Replica 1); stamp = 1; figure = 7 }
       ∷ [];
   journal =
-      record { kind = OperationKind.Write; owner = Party.Writer; started = 1; finished = 0; exchanges = 0; stamp = 1; figure = 7; sent = 4 }
-      ∷ record { kind = OperationKind.Read ReadKind.Quick; owner = (Party.Reader 0); started = 2; finished = 0; exchanges = 0; stamp = 0; figure = 5; sent = 3 }
+      record
+      { kind = OperationKind.Write; owner = Party.Writer; started = 1; finished = 0; exchanges = 0; stamp = 1; figure = 7; sent = 4 }
+      ∷ record
+      { kind = OperationKind.Read ReadKind.Quick; owner = (Party.Reader 0); started = 2; finished = 0; exchanges = 0; stamp = 0; figure = 5; sent = 3 }
       ∷ [];
   finished = 0;
 }
@@ -204,19 +233,28 @@ full = refl
 -- Messages that come twice, late or for an older read.
 repeated-calls : List (Call ℕ)
 repeated-calls =
-    Call.Write 100 ∷ Call.Read 0 ReadKind.Quick ∷ Call.Duplicate 3 ∷ Call.Deliver 3 ∷ Call.Deliver 0 ∷ Call.Deliver 4 ∷ Call.Deliver 4 ∷ Call.Deliver 5 ∷
-    Call.Deliver 0 ∷ Call.Deliver 1 ∷ Call.Deliver 4 ∷ Call.Read 1 ReadKind.Relay ∷ Call.Deliver 7 ∷ Call.Deliver 7 ∷ Call.Deliver 7 ∷
-    Call.Duplicate 13 ∷ Call.Deliver 7 ∷ Call.Deliver 9 ∷ Call.Deliver 11 ∷ Call.Deliver 7 ∷ Call.Deliver 8 ∷ Call.Duplicate 12 ∷ Call.Deliver 12 ∷
-    Call.Deliver 13 ∷ Call.Deliver 12 ∷ Call.Read 1 ReadKind.Relay ∷ Call.Deliver 12 ∷ Call.Deliver 14 ∷ Call.Deliver 11 ∷ Call.Halt (Party.Replica 2) ∷
-    Call.Deliver 4 ∷ Call.Deliver 4 ∷ Call.Deliver 4 ∷ Call.Duplicate 12 ∷ Call.Deliver 12 ∷ Call.Deliver 13 ∷ Call.Deliver 12 ∷ Call.Deliver 2 ∷
+    Call.Write 100 ∷ Call.Read 0 ReadKind.Quick ∷ Call.Duplicate 3 ∷ Call.Deliver 3 ∷ Call.Deliver 0 ∷ Call.Deliver 4
+    ∷ Call.Deliver 4 ∷ Call.Deliver 5 ∷
+    Call.Deliver 0 ∷ Call.Deliver 1 ∷ Call.Deliver 4 ∷ Call.Read 1 ReadKind.Relay ∷ Call.Deliver 7 ∷ Call.Deliver 7 ∷
+    Call.Deliver 7 ∷
+    Call.Duplicate 13 ∷ Call.Deliver 7 ∷ Call.Deliver 9 ∷ Call.Deliver 11 ∷ Call.Deliver 7 ∷ Call.Deliver 8 ∷
+    Call.Duplicate 12 ∷ Call.Deliver 12 ∷
+    Call.Deliver 13 ∷ Call.Deliver 12 ∷ Call.Read 1 ReadKind.Relay ∷ Call.Deliver 12 ∷ Call.Deliver 14 ∷ Call.Deliver
+    11 ∷ Call.Halt (Party.Replica 2) ∷
+    Call.Deliver 4 ∷ Call.Deliver 4 ∷ Call.Deliver 4 ∷ Call.Duplicate 12 ∷ Call.Deliver 12 ∷ Call.Deliver 13 ∷
+    Call.Deliver 12 ∷ Call.Deliver 2 ∷
     Call.Deliver 2 ∷ Call.Write 101 ∷ Call.Halt Party.Writer ∷ Call.Deliver 10 ∷ []
 
 repeated-replies : List (Reply ℕ)
 repeated-replies =
-    Reply.Started 1 ∷ Reply.Started 2 ∷ Reply.Done ∷ Reply.Done ∷ Reply.Done ∷ Reply.Done ∷ Reply.Done ∷ Reply.Done ∷ Reply.Done ∷ Reply.Done ∷
-    Reply.Done ∷ Reply.Started 3 ∷ Reply.Done ∷ Reply.Done ∷ Reply.Done ∷ Reply.Done ∷ Reply.Done ∷ Reply.Done ∷ Reply.Done ∷ Reply.Done ∷ Reply.Done ∷
-    Reply.Done ∷ Reply.Done ∷ Reply.Done ∷ Reply.Finished 3 1 100 14 3 ∷ Reply.Started 4 ∷ Reply.Done ∷ Reply.Done ∷ Reply.Done ∷ Reply.Done ∷
-    Reply.Done ∷ Reply.Done ∷ Reply.Done ∷ Reply.Done ∷ Reply.Done ∷ Reply.Done ∷ Reply.Finished 2 1 100 11 4 ∷ Reply.Done ∷ Reply.Finished 1 1 100 5 2 ∷
+    Reply.Started 1 ∷ Reply.Started 2 ∷ Reply.Done ∷ Reply.Done ∷ Reply.Done ∷ Reply.Done ∷ Reply.Done ∷ Reply.Done ∷
+    Reply.Done ∷ Reply.Done ∷
+    Reply.Done ∷ Reply.Started 3 ∷ Reply.Done ∷ Reply.Done ∷ Reply.Done ∷ Reply.Done ∷ Reply.Done ∷ Reply.Done ∷
+    Reply.Done ∷ Reply.Done ∷ Reply.Done ∷
+    Reply.Done ∷ Reply.Done ∷ Reply.Done ∷ Reply.Finished 3 1 100 14 3 ∷ Reply.Started 4 ∷ Reply.Done ∷ Reply.Done ∷
+    Reply.Done ∷ Reply.Done ∷
+    Reply.Done ∷ Reply.Done ∷ Reply.Done ∷ Reply.Done ∷ Reply.Done ∷ Reply.Done ∷ Reply.Finished 2 1 100 11 4 ∷
+    Reply.Done ∷ Reply.Finished 1 1 100 5 2 ∷
     Reply.Started 5 ∷ Reply.Done ∷ Reply.Done ∷ []
 
 repeated-end : State ℕ
@@ -231,8 +269,10 @@ repeated-end = record {
       ∷ record { stamp = 0; figure = 5; halted = true }
       ∷ [];
   readers =
-      record { halted = false; operation = 0; phase = Phase.Idle; replies = 3; «best_stamp» = 1; «best_figure» = 100; holders = 2 }
-      ∷ record { halted = false; operation = 4; phase = Phase.Relay; replies = 0; «best_stamp» = 0; «best_figure» = 5; holders = 0 }
+      record
+      { halted = false; operation = 0; phase = Phase.Idle; replies = 3; «best_stamp» = 1; «best_figure» = 100; holders = 2 }
+      ∷ record
+      { halted = false; operation = 4; phase = Phase.Relay; replies = 0; «best_stamp» = 0; «best_figure» = 5; holders = 0 }
       ∷ [];
   marks =
       record { operation = 0; relayers = 0; replied = false }
@@ -243,26 +283,44 @@ repeated-end = record {
       ∷ record { operation = 0; relayers = 0; replied = false }
       ∷ [];
   messages =
-      record { kind = MessageKind.Put; operation = 1; sender = Party.Writer; receiver = (Party.Replica 2); stamp = 1; figure = 100 }
-      ∷ record { kind = MessageKind.Query; operation = 2; sender = (Party.Reader 0); receiver = (Party.Replica 2); stamp = 0; figure = 5 }
-      ∷ record { kind = MessageKind.Relay; operation = 3; sender = (Party.Replica 0); receiver = (Party.Replica 2); stamp = 1; figure = 100 }
-      ∷ record { kind = MessageKind.Relay; operation = 3; sender = (Party.Replica 1); receiver = (Party.Replica 2); stamp = 1; figure = 100 }
-      ∷ record { kind = MessageKind.Relay; operation = 3; sender = (Party.Replica 2); receiver = (Party.Replica 1); stamp = 0; figure = 5 }
-      ∷ record { kind = MessageKind.Relay; operation = 3; sender = (Party.Replica 2); receiver = (Party.Replica 2); stamp = 0; figure = 5 }
-      ∷ record { kind = MessageKind.Fan; operation = 4; sender = (Party.Reader 1); receiver = (Party.Replica 1); stamp = 0; figure = 5 }
-      ∷ record { kind = MessageKind.Fan; operation = 4; sender = (Party.Reader 1); receiver = (Party.Replica 2); stamp = 0; figure = 5 }
-      ∷ record { kind = MessageKind.Relay; operation = 4; sender = (Party.Replica 0); receiver = (Party.Replica 1); stamp = 1; figure = 100 }
-      ∷ record { kind = MessageKind.Relay; operation = 4; sender = (Party.Replica 0); receiver = (Party.Replica 2); stamp = 1; figure = 100 }
-      ∷ record { kind = MessageKind.Put; operation = 5; sender = Party.Writer; receiver = (Party.Replica 1); stamp = 2; figure = 101 }
-      ∷ record { kind = MessageKind.Put; operation = 5; sender = Party.Writer; receiver = (Party.Replica 2); stamp = 2; figure = 101 }
-      ∷ record { kind = MessageKind.PutAck; operation = 5; sender = (Party.Replica 0); receiver = Party.Writer; stamp = 0; figure = 5 }
+      record
+      { kind = MessageKind.Put; operation = 1; sender = Party.Writer; receiver = (Party.Replica 2); stamp = 1; figure = 100 }
+      ∷ record
+      { kind = MessageKind.Query; operation = 2; sender = (Party.Reader 0); receiver = (Party.Replica 2); stamp = 0; figure = 5 }
+      ∷ record
+      { kind = MessageKind.Relay; operation = 3; sender = (Party.Replica 0); receiver = (Party.Replica 2); stamp = 1; figure = 100 }
+      ∷ record
+      { kind = MessageKind.Relay; operation = 3; sender = (Party.Replica 1); receiver = (Party.Replica 2); stamp = 1; figure = 100 }
+      ∷ record
+      { kind = MessageKind.Relay; operation = 3; sender = (Party.Replica 2); receiver = (Party.Replica 1); stamp = 0; figure = 5 }
+      ∷ record
+      { kind = MessageKind.Relay; operation = 3; sender = (Party.Replica 2); receiver = (Party.Replica 2); stamp = 0; figure = 5 }
+      ∷ record
+      { kind = MessageKind.Fan; operation = 4; sender = (Party.Reader 1); receiver = (Party.Replica 1); stamp = 0; figure = 5 }
+      ∷ record
+      { kind = MessageKind.Fan; operation = 4; sender = (Party.Reader 1); receiver = (Party.Replica 2); stamp = 0; figure = 5 }
+      ∷ record
+      { kind = MessageKind.Relay; operation = 4; sender = (Party.Replica 0); receiver = (Party.Replica 1); stamp = 1; figure = 100 }
+      ∷ record
+      { kind = MessageKind.Relay; operation = 4; sender = (Party.Replica 0); receiver = (Party.Replica 2); stamp = 1; figure = 100 }
+      ∷ record
+      { kind = MessageKind.Put; operation = 5; sender = Party.Writer; receiver = (Party.Replica 1); stamp = 2; figure = 101 }
+      ∷ record
+      { kind = MessageKind.Put; operation = 5; sender = Party.Writer; receiver = (Party.Replica 2); stamp = 2; figure = 101 }
+      ∷ record
+      { kind = MessageKind.PutAck; operation = 5; sender = (Party.Replica 0); receiver = Party.Writer; stamp = 0; figure = 5 }
       ∷ [];
   journal =
-      record { kind = OperationKind.Write; owner = Party.Writer; started = 1; finished = 7; exchanges = 2; stamp = 1; figure = 100; sent = 5 }
-      ∷ record { kind = OperationKind.Read ReadKind.Quick; owner = (Party.Reader 0); started = 2; finished = 6; exchanges = 4; stamp = 1; figure = 100; sent = 11 }
-      ∷ record { kind = OperationKind.Read ReadKind.Relay; owner = (Party.Reader 1); started = 3; finished = 4; exchanges = 3; stamp = 1; figure = 100; sent = 14 }
-      ∷ record { kind = OperationKind.Read ReadKind.Relay; owner = (Party.Reader 1); started = 5; finished = 0; exchanges = 0; stamp = 0; figure = 5; sent = 6 }
-      ∷ record { kind = OperationKind.Write; owner = Party.Writer; started = 8; finished = 0; exchanges = 0; stamp = 2; figure = 101; sent = 4 }
+      record
+      { kind = OperationKind.Write; owner = Party.Writer; started = 1; finished = 7; exchanges = 2; stamp = 1; figure = 100; sent = 5 }
+      ∷ record
+      { kind = OperationKind.Read ReadKind.Quick; owner = (Party.Reader 0); started = 2; finished = 6; exchanges = 4; stamp = 1; figure = 100; sent = 11 }
+      ∷ record
+      { kind = OperationKind.Read ReadKind.Relay; owner = (Party.Reader 1); started = 3; finished = 4; exchanges = 3; stamp = 1; figure = 100; sent = 14 }
+      ∷ record
+      { kind = OperationKind.Read ReadKind.Relay; owner = (Party.Reader 1); started = 5; finished = 0; exchanges = 0; stamp = 0; figure = 5; sent = 6 }
+      ∷ record
+      { kind = OperationKind.Write; owner = Party.Writer; started = 8; finished = 0; exchanges = 0; stamp = 2; figure = 101; sent = 4 }
       ∷ [];
   finished = 3;
 }
@@ -274,19 +332,28 @@ repeated = refl
 -- Drawn at random, over a count.
 by-count-calls : List (Call ℕ)
 by-count-calls =
-    Call.Write 100 ∷ Call.Deliver 1 ∷ Call.Deliver 0 ∷ Call.Read 1 ReadKind.Settled ∷ Call.Deliver 0 ∷ Call.Deliver 5 ∷ Call.Deliver 4 ∷ Call.Deliver 0 ∷
-    Call.Deliver 0 ∷ Call.Deliver 0 ∷ Call.Read 0 ReadKind.Quick ∷ Call.Drop 1 ∷ Call.Deliver 0 ∷ Call.Deliver 0 ∷ Call.Deliver 3 ∷ Call.Deliver 0 ∷
-    Call.Deliver 0 ∷ Call.Deliver 0 ∷ Call.Deliver 0 ∷ Call.Deliver 3 ∷ Call.Deliver 0 ∷ Call.Deliver 1 ∷ Call.Deliver 3 ∷ Call.Deliver 2 ∷
-    Call.Deliver 0 ∷ Call.Read 2 ReadKind.Relay ∷ Call.Deliver 0 ∷ Call.Write 101 ∷ Call.Write 102 ∷ Call.Deliver 6 ∷ Call.Deliver 2 ∷ Call.Duplicate 5 ∷
-    Call.Halt (Party.Replica 0) ∷ Call.Deliver 0 ∷ Call.Deliver 4 ∷ Call.Deliver 7 ∷ Call.Deliver 0 ∷ Call.Deliver 5 ∷ Call.Deliver 0 ∷ Call.Deliver 0 ∷
+    Call.Write 100 ∷ Call.Deliver 1 ∷ Call.Deliver 0 ∷ Call.Read 1 ReadKind.Settled ∷ Call.Deliver 0 ∷ Call.Deliver 5
+    ∷ Call.Deliver 4 ∷ Call.Deliver 0 ∷
+    Call.Deliver 0 ∷ Call.Deliver 0 ∷ Call.Read 0 ReadKind.Quick ∷ Call.Drop 1 ∷ Call.Deliver 0 ∷ Call.Deliver 0 ∷
+    Call.Deliver 3 ∷ Call.Deliver 0 ∷
+    Call.Deliver 0 ∷ Call.Deliver 0 ∷ Call.Deliver 0 ∷ Call.Deliver 3 ∷ Call.Deliver 0 ∷ Call.Deliver 1 ∷ Call.Deliver
+    3 ∷ Call.Deliver 2 ∷
+    Call.Deliver 0 ∷ Call.Read 2 ReadKind.Relay ∷ Call.Deliver 0 ∷ Call.Write 101 ∷ Call.Write 102 ∷ Call.Deliver 6 ∷
+    Call.Deliver 2 ∷ Call.Duplicate 5 ∷
+    Call.Halt (Party.Replica 0) ∷ Call.Deliver 0 ∷ Call.Deliver 4 ∷ Call.Deliver 7 ∷ Call.Deliver 0 ∷ Call.Deliver 5 ∷
+    Call.Deliver 0 ∷ Call.Deliver 0 ∷
     []
 
 by-count-replies : List (Reply ℕ)
 by-count-replies =
-    Reply.Started 1 ∷ Reply.Done ∷ Reply.Done ∷ Reply.Started 2 ∷ Reply.Done ∷ Reply.Done ∷ Reply.Done ∷ Reply.Finished 1 1 100 6 2 ∷ Reply.Done ∷
-    Reply.Done ∷ Reply.Started 3 ∷ Reply.Done ∷ Reply.Done ∷ Reply.Done ∷ Reply.Done ∷ Reply.Done ∷ Reply.Done ∷ Reply.Done ∷ Reply.Done ∷ Reply.Done ∷
-    Reply.Done ∷ Reply.Finished 3 1 100 6 2 ∷ Reply.Done ∷ Reply.Finished 2 1 100 11 4 ∷ Reply.Done ∷ Reply.Started 4 ∷ Reply.Done ∷ Reply.Started 5 ∷
-    Reply.Declined Refusal.Busy ∷ Reply.Done ∷ Reply.Done ∷ Reply.Done ∷ Reply.Done ∷ Reply.Done ∷ Reply.Done ∷ Reply.Done ∷ Reply.Done ∷ Reply.Done ∷
+    Reply.Started 1 ∷ Reply.Done ∷ Reply.Done ∷ Reply.Started 2 ∷ Reply.Done ∷ Reply.Done ∷ Reply.Done ∷
+    Reply.Finished 1 1 100 6 2 ∷ Reply.Done ∷
+    Reply.Done ∷ Reply.Started 3 ∷ Reply.Done ∷ Reply.Done ∷ Reply.Done ∷ Reply.Done ∷ Reply.Done ∷ Reply.Done ∷
+    Reply.Done ∷ Reply.Done ∷ Reply.Done ∷
+    Reply.Done ∷ Reply.Finished 3 1 100 6 2 ∷ Reply.Done ∷ Reply.Finished 2 1 100 11 4 ∷ Reply.Done ∷ Reply.Started 4
+    ∷ Reply.Done ∷ Reply.Started 5 ∷
+    Reply.Declined Refusal.Busy ∷ Reply.Done ∷ Reply.Done ∷ Reply.Done ∷ Reply.Done ∷ Reply.Done ∷ Reply.Done ∷
+    Reply.Done ∷ Reply.Done ∷ Reply.Done ∷
     Reply.Done ∷ Reply.Done ∷ []
 
 by-count-end : State ℕ
@@ -301,9 +368,12 @@ by-count-end = record {
       ∷ record { stamp = 2; figure = 101; halted = false }
       ∷ [];
   readers =
-      record { halted = false; operation = 0; phase = Phase.Idle; replies = 3; «best_stamp» = 1; «best_figure» = 100; holders = 3 }
-      ∷ record { halted = false; operation = 0; phase = Phase.Idle; replies = 3; «best_stamp» = 1; «best_figure» = 100; holders = 3 }
-      ∷ record { halted = false; operation = 4; phase = Phase.Relay; replies = 0; «best_stamp» = 0; «best_figure» = 5; holders = 0 }
+      record
+      { halted = false; operation = 0; phase = Phase.Idle; replies = 3; «best_stamp» = 1; «best_figure» = 100; holders = 3 }
+      ∷ record
+      { halted = false; operation = 0; phase = Phase.Idle; replies = 3; «best_stamp» = 1; «best_figure» = 100; holders = 3 }
+      ∷ record
+      { halted = false; operation = 4; phase = Phase.Relay; replies = 0; «best_stamp» = 0; «best_figure» = 5; holders = 0 }
       ∷ [];
   marks =
       record { operation = 0; relayers = 0; replied = false }
@@ -317,19 +387,30 @@ by-count-end = record {
       ∷ record { operation = 4; relayers = 2; replied = false }
       ∷ [];
   messages =
-      record { kind = MessageKind.Put; operation = 5; sender = Party.Writer; receiver = (Party.Replica 1); stamp = 2; figure = 101 }
-      ∷ record { kind = MessageKind.Relay; operation = 4; sender = (Party.Replica 1); receiver = (Party.Replica 0); stamp = 1; figure = 100 }
-      ∷ record { kind = MessageKind.Relay; operation = 4; sender = (Party.Replica 1); receiver = (Party.Replica 1); stamp = 1; figure = 100 }
-      ∷ record { kind = MessageKind.Relay; operation = 4; sender = (Party.Replica 2); receiver = (Party.Replica 0); stamp = 2; figure = 101 }
-      ∷ record { kind = MessageKind.Relay; operation = 4; sender = (Party.Replica 2); receiver = (Party.Replica 1); stamp = 2; figure = 101 }
-      ∷ record { kind = MessageKind.Relay; operation = 4; sender = (Party.Replica 2); receiver = (Party.Replica 2); stamp = 2; figure = 101 }
+      record
+      { kind = MessageKind.Put; operation = 5; sender = Party.Writer; receiver = (Party.Replica 1); stamp = 2; figure = 101 }
+      ∷ record
+      { kind = MessageKind.Relay; operation = 4; sender = (Party.Replica 1); receiver = (Party.Replica 0); stamp = 1; figure = 100 }
+      ∷ record
+      { kind = MessageKind.Relay; operation = 4; sender = (Party.Replica 1); receiver = (Party.Replica 1); stamp = 1; figure = 100 }
+      ∷ record
+      { kind = MessageKind.Relay; operation = 4; sender = (Party.Replica 2); receiver = (Party.Replica 0); stamp = 2; figure = 101 }
+      ∷ record
+      { kind = MessageKind.Relay; operation = 4; sender = (Party.Replica 2); receiver = (Party.Replica 1); stamp = 2; figure = 101 }
+      ∷ record
+      { kind = MessageKind.Relay; operation = 4; sender = (Party.Replica 2); receiver = (Party.Replica 2); stamp = 2; figure = 101 }
       ∷ [];
   journal =
-      record { kind = OperationKind.Write; owner = Party.Writer; started = 1; finished = 3; exchanges = 2; stamp = 1; figure = 100; sent = 6 }
-      ∷ record { kind = OperationKind.Read ReadKind.Settled; owner = (Party.Reader 1); started = 2; finished = 6; exchanges = 4; stamp = 1; figure = 100; sent = 12 }
-      ∷ record { kind = OperationKind.Read ReadKind.Quick; owner = (Party.Reader 0); started = 4; finished = 5; exchanges = 2; stamp = 1; figure = 100; sent = 6 }
-      ∷ record { kind = OperationKind.Read ReadKind.Relay; owner = (Party.Reader 2); started = 7; finished = 0; exchanges = 0; stamp = 0; figure = 5; sent = 9 }
-      ∷ record { kind = OperationKind.Write; owner = Party.Writer; started = 8; finished = 0; exchanges = 0; stamp = 2; figure = 101; sent = 4 }
+      record
+      { kind = OperationKind.Write; owner = Party.Writer; started = 1; finished = 3; exchanges = 2; stamp = 1; figure = 100; sent = 6 }
+      ∷ record
+      { kind = OperationKind.Read ReadKind.Settled; owner = (Party.Reader 1); started = 2; finished = 6; exchanges = 4; stamp = 1; figure = 100; sent = 12 }
+      ∷ record
+      { kind = OperationKind.Read ReadKind.Quick; owner = (Party.Reader 0); started = 4; finished = 5; exchanges = 2; stamp = 1; figure = 100; sent = 6 }
+      ∷ record
+      { kind = OperationKind.Read ReadKind.Relay; owner = (Party.Reader 2); started = 7; finished = 0; exchanges = 0; stamp = 0; figure = 5; sent = 9 }
+      ∷ record
+      { kind = OperationKind.Write; owner = Party.Writer; started = 8; finished = 0; exchanges = 0; stamp = 2; figure = 101; sent = 4 }
       ∷ [];
   finished = 3;
 }
@@ -341,19 +422,28 @@ by-count = refl
 -- Drawn at random, over a grid.
 by-grid-calls : List (Call ℕ)
 by-grid-calls =
-    Call.Write 100 ∷ Call.Deliver 0 ∷ Call.Duplicate 1 ∷ Call.Deliver 4 ∷ Call.Deliver 0 ∷ Call.Duplicate 4 ∷ Call.Deliver 0 ∷ Call.Deliver 5 ∷
-    Call.Deliver 0 ∷ Call.Deliver 0 ∷ Call.Deliver 4 ∷ Call.Drop 2 ∷ Call.Halt (Party.Replica 2) ∷ Call.Read 1 ReadKind.Quick ∷ Call.Deliver 0 ∷
-    Call.Deliver 2 ∷ Call.Deliver 0 ∷ Call.Deliver 0 ∷ Call.Write 101 ∷ Call.Deliver 0 ∷ Call.Deliver 5 ∷ Call.Deliver 0 ∷ Call.Deliver 0 ∷
-    Call.Deliver 0 ∷ Call.Deliver 2 ∷ Call.Deliver 4 ∷ Call.Deliver 1 ∷ Call.Write 102 ∷ Call.Deliver 0 ∷ Call.Deliver 0 ∷ Call.Deliver 1 ∷
-    Call.Deliver 1 ∷ Call.Deliver 0 ∷ Call.Read 1 ReadKind.Relay ∷ Call.Deliver 0 ∷ Call.Deliver 0 ∷ Call.Deliver 9 ∷ Call.Read 0 ReadKind.Settled ∷
+    Call.Write 100 ∷ Call.Deliver 0 ∷ Call.Duplicate 1 ∷ Call.Deliver 4 ∷ Call.Deliver 0 ∷ Call.Duplicate 4 ∷
+    Call.Deliver 0 ∷ Call.Deliver 5 ∷
+    Call.Deliver 0 ∷ Call.Deliver 0 ∷ Call.Deliver 4 ∷ Call.Drop 2 ∷ Call.Halt (Party.Replica 2) ∷ Call.Read 1
+    ReadKind.Quick ∷ Call.Deliver 0 ∷
+    Call.Deliver 2 ∷ Call.Deliver 0 ∷ Call.Deliver 0 ∷ Call.Write 101 ∷ Call.Deliver 0 ∷ Call.Deliver 5 ∷ Call.Deliver
+    0 ∷ Call.Deliver 0 ∷
+    Call.Deliver 0 ∷ Call.Deliver 2 ∷ Call.Deliver 4 ∷ Call.Deliver 1 ∷ Call.Write 102 ∷ Call.Deliver 0 ∷ Call.Deliver
+    0 ∷ Call.Deliver 1 ∷
+    Call.Deliver 1 ∷ Call.Deliver 0 ∷ Call.Read 1 ReadKind.Relay ∷ Call.Deliver 0 ∷ Call.Deliver 0 ∷ Call.Deliver 9 ∷
+    Call.Read 0 ReadKind.Settled ∷
     Call.Write 103 ∷ Call.Deliver 0 ∷ []
 
 by-grid-replies : List (Reply ℕ)
 by-grid-replies =
-    Reply.Started 1 ∷ Reply.Done ∷ Reply.Done ∷ Reply.Done ∷ Reply.Done ∷ Reply.Done ∷ Reply.Done ∷ Reply.Done ∷ Reply.Done ∷ Reply.Done ∷
-    Reply.Declined Refusal.NoMessage ∷ Reply.Done ∷ Reply.Done ∷ Reply.Started 2 ∷ Reply.Done ∷ Reply.Done ∷ Reply.Finished 1 1 100 9 2 ∷ Reply.Done ∷
-    Reply.Started 3 ∷ Reply.Done ∷ Reply.Done ∷ Reply.Done ∷ Reply.Done ∷ Reply.Done ∷ Reply.Done ∷ Reply.Done ∷ Reply.Done ∷
-    Reply.Declined Refusal.Busy ∷ Reply.Done ∷ Reply.Done ∷ Reply.Done ∷ Reply.Finished 3 2 101 7 2 ∷ Reply.Finished 2 1 100 7 2 ∷ Reply.Started 4 ∷
+    Reply.Started 1 ∷ Reply.Done ∷ Reply.Done ∷ Reply.Done ∷ Reply.Done ∷ Reply.Done ∷ Reply.Done ∷ Reply.Done ∷
+    Reply.Done ∷ Reply.Done ∷
+    Reply.Declined Refusal.NoMessage ∷ Reply.Done ∷ Reply.Done ∷ Reply.Started 2 ∷ Reply.Done ∷ Reply.Done ∷
+    Reply.Finished 1 1 100 9 2 ∷ Reply.Done ∷
+    Reply.Started 3 ∷ Reply.Done ∷ Reply.Done ∷ Reply.Done ∷ Reply.Done ∷ Reply.Done ∷ Reply.Done ∷ Reply.Done ∷
+    Reply.Done ∷
+    Reply.Declined Refusal.Busy ∷ Reply.Done ∷ Reply.Done ∷ Reply.Done ∷ Reply.Finished 3 2 101 7 2 ∷ Reply.Finished 2
+    1 100 7 2 ∷ Reply.Started 4 ∷
     Reply.Done ∷ Reply.Done ∷ Reply.Done ∷ Reply.Started 5 ∷ Reply.Declined Refusal.JournalFull ∷ Reply.Done ∷ []
 
 by-grid-end : State ℕ
@@ -369,8 +459,10 @@ by-grid-end = record {
       ∷ record { stamp = 2; figure = 101; halted = false }
       ∷ [];
   readers =
-      record { halted = false; operation = 5; phase = Phase.First; replies = 0; «best_stamp» = 0; «best_figure» = 5; holders = 0 }
-      ∷ record { halted = false; operation = 4; phase = Phase.Relay; replies = 0; «best_stamp» = 0; «best_figure» = 5; holders = 0 }
+      record
+      { halted = false; operation = 5; phase = Phase.First; replies = 0; «best_stamp» = 0; «best_figure» = 5; holders = 0 }
+      ∷ record
+      { halted = false; operation = 4; phase = Phase.Relay; replies = 0; «best_stamp» = 0; «best_figure» = 5; holders = 0 }
       ∷ [];
   marks =
       record { operation = 0; relayers = 0; replied = false }
@@ -383,25 +475,42 @@ by-grid-end = record {
       ∷ record { operation = 4; relayers = 2; replied = false }
       ∷ [];
   messages =
-      record { kind = MessageKind.Fan; operation = 4; sender = (Party.Reader 1); receiver = (Party.Replica 3); stamp = 0; figure = 5 }
-      ∷ record { kind = MessageKind.Relay; operation = 4; sender = (Party.Replica 0); receiver = (Party.Replica 0); stamp = 2; figure = 101 }
-      ∷ record { kind = MessageKind.Relay; operation = 4; sender = (Party.Replica 0); receiver = (Party.Replica 1); stamp = 2; figure = 101 }
-      ∷ record { kind = MessageKind.Relay; operation = 4; sender = (Party.Replica 0); receiver = (Party.Replica 2); stamp = 2; figure = 101 }
-      ∷ record { kind = MessageKind.Relay; operation = 4; sender = (Party.Replica 0); receiver = (Party.Replica 3); stamp = 2; figure = 101 }
-      ∷ record { kind = MessageKind.Relay; operation = 4; sender = (Party.Replica 1); receiver = (Party.Replica 0); stamp = 2; figure = 101 }
-      ∷ record { kind = MessageKind.Relay; operation = 4; sender = (Party.Replica 1); receiver = (Party.Replica 1); stamp = 2; figure = 101 }
-      ∷ record { kind = MessageKind.Relay; operation = 4; sender = (Party.Replica 1); receiver = (Party.Replica 2); stamp = 2; figure = 101 }
-      ∷ record { kind = MessageKind.Query; operation = 5; sender = (Party.Reader 0); receiver = (Party.Replica 0); stamp = 0; figure = 5 }
-      ∷ record { kind = MessageKind.Query; operation = 5; sender = (Party.Reader 0); receiver = (Party.Replica 1); stamp = 0; figure = 5 }
-      ∷ record { kind = MessageKind.Query; operation = 5; sender = (Party.Reader 0); receiver = (Party.Replica 2); stamp = 0; figure = 5 }
-      ∷ record { kind = MessageKind.Query; operation = 5; sender = (Party.Reader 0); receiver = (Party.Replica 3); stamp = 0; figure = 5 }
+      record
+      { kind = MessageKind.Fan; operation = 4; sender = (Party.Reader 1); receiver = (Party.Replica 3); stamp = 0; figure = 5 }
+      ∷ record
+      { kind = MessageKind.Relay; operation = 4; sender = (Party.Replica 0); receiver = (Party.Replica 0); stamp = 2; figure = 101 }
+      ∷ record
+      { kind = MessageKind.Relay; operation = 4; sender = (Party.Replica 0); receiver = (Party.Replica 1); stamp = 2; figure = 101 }
+      ∷ record
+      { kind = MessageKind.Relay; operation = 4; sender = (Party.Replica 0); receiver = (Party.Replica 2); stamp = 2; figure = 101 }
+      ∷ record
+      { kind = MessageKind.Relay; operation = 4; sender = (Party.Replica 0); receiver = (Party.Replica 3); stamp = 2; figure = 101 }
+      ∷ record
+      { kind = MessageKind.Relay; operation = 4; sender = (Party.Replica 1); receiver = (Party.Replica 0); stamp = 2; figure = 101 }
+      ∷ record
+      { kind = MessageKind.Relay; operation = 4; sender = (Party.Replica 1); receiver = (Party.Replica 1); stamp = 2; figure = 101 }
+      ∷ record
+      { kind = MessageKind.Relay; operation = 4; sender = (Party.Replica 1); receiver = (Party.Replica 2); stamp = 2; figure = 101 }
+      ∷ record
+      { kind = MessageKind.Query; operation = 5; sender = (Party.Reader 0); receiver = (Party.Replica 0); stamp = 0; figure = 5 }
+      ∷ record
+      { kind = MessageKind.Query; operation = 5; sender = (Party.Reader 0); receiver = (Party.Replica 1); stamp = 0; figure = 5 }
+      ∷ record
+      { kind = MessageKind.Query; operation = 5; sender = (Party.Reader 0); receiver = (Party.Replica 2); stamp = 0; figure = 5 }
+      ∷ record
+      { kind = MessageKind.Query; operation = 5; sender = (Party.Reader 0); receiver = (Party.Replica 3); stamp = 0; figure = 5 }
       ∷ [];
   journal =
-      record { kind = OperationKind.Write; owner = Party.Writer; started = 1; finished = 3; exchanges = 2; stamp = 1; figure = 100; sent = 9 }
-      ∷ record { kind = OperationKind.Read ReadKind.Quick; owner = (Party.Reader 1); started = 2; finished = 6; exchanges = 2; stamp = 1; figure = 100; sent = 7 }
-      ∷ record { kind = OperationKind.Write; owner = Party.Writer; started = 4; finished = 5; exchanges = 2; stamp = 2; figure = 101; sent = 7 }
-      ∷ record { kind = OperationKind.Read ReadKind.Relay; owner = (Party.Reader 1); started = 7; finished = 0; exchanges = 0; stamp = 0; figure = 5; sent = 12 }
-      ∷ record { kind = OperationKind.Read ReadKind.Settled; owner = (Party.Reader 0); started = 8; finished = 0; exchanges = 0; stamp = 0; figure = 5; sent = 4 }
+      record
+      { kind = OperationKind.Write; owner = Party.Writer; started = 1; finished = 3; exchanges = 2; stamp = 1; figure = 100; sent = 9 }
+      ∷ record
+      { kind = OperationKind.Read ReadKind.Quick; owner = (Party.Reader 1); started = 2; finished = 6; exchanges = 2; stamp = 1; figure = 100; sent = 7 }
+      ∷ record
+      { kind = OperationKind.Write; owner = Party.Writer; started = 4; finished = 5; exchanges = 2; stamp = 2; figure = 101; sent = 7 }
+      ∷ record
+      { kind = OperationKind.Read ReadKind.Relay; owner = (Party.Reader 1); started = 7; finished = 0; exchanges = 0; stamp = 0; figure = 5; sent = 12 }
+      ∷ record
+      { kind = OperationKind.Read ReadKind.Settled; owner = (Party.Reader 0); started = 8; finished = 0; exchanges = 0; stamp = 0; figure = 5; sent = 4 }
       ∷ [];
   finished = 3;
 }
@@ -413,19 +522,28 @@ by-grid = refl
 -- Drawn at random, under a lead.
 by-lead-calls : List (Call ℕ)
 by-lead-calls =
-    Call.Write 100 ∷ Call.Deliver 0 ∷ Call.Deliver 3 ∷ Call.Deliver 0 ∷ Call.Deliver 0 ∷ Call.Deliver 2 ∷ Call.Deliver 0 ∷ Call.Read 0 ReadKind.Relay ∷
-    Call.Write 101 ∷ Call.Halt (Party.Replica 1) ∷ Call.Deliver 0 ∷ Call.Deliver 5 ∷ Call.Deliver 1 ∷ Call.Read 1 ReadKind.Quick ∷ Call.Deliver 6 ∷
-    Call.Deliver 1 ∷ Call.Deliver 0 ∷ Call.Deliver 5 ∷ Call.Deliver 0 ∷ Call.Deliver 0 ∷ Call.Deliver 0 ∷ Call.Deliver 7 ∷ Call.Deliver 0 ∷
-    Call.Read 1 ReadKind.Quick ∷ Call.Deliver 1 ∷ Call.Deliver 2 ∷ Call.Deliver 0 ∷ Call.Deliver 0 ∷ Call.Deliver 2 ∷ Call.Deliver 3 ∷ Call.Deliver 0 ∷
-    Call.Deliver 0 ∷ Call.Duplicate 2 ∷ Call.Duplicate 1 ∷ Call.Deliver 0 ∷ Call.Drop 1 ∷ Call.Deliver 0 ∷ Call.Read 0 ReadKind.Settled ∷
+    Call.Write 100 ∷ Call.Deliver 0 ∷ Call.Deliver 3 ∷ Call.Deliver 0 ∷ Call.Deliver 0 ∷ Call.Deliver 2 ∷ Call.Deliver
+    0 ∷ Call.Read 0 ReadKind.Relay ∷
+    Call.Write 101 ∷ Call.Halt (Party.Replica 1) ∷ Call.Deliver 0 ∷ Call.Deliver 5 ∷ Call.Deliver 1 ∷ Call.Read 1
+    ReadKind.Quick ∷ Call.Deliver 6 ∷
+    Call.Deliver 1 ∷ Call.Deliver 0 ∷ Call.Deliver 5 ∷ Call.Deliver 0 ∷ Call.Deliver 0 ∷ Call.Deliver 0 ∷ Call.Deliver
+    7 ∷ Call.Deliver 0 ∷
+    Call.Read 1 ReadKind.Quick ∷ Call.Deliver 1 ∷ Call.Deliver 2 ∷ Call.Deliver 0 ∷ Call.Deliver 0 ∷ Call.Deliver 2 ∷
+    Call.Deliver 3 ∷ Call.Deliver 0 ∷
+    Call.Deliver 0 ∷ Call.Duplicate 2 ∷ Call.Duplicate 1 ∷ Call.Deliver 0 ∷ Call.Drop 1 ∷ Call.Deliver 0 ∷ Call.Read 0
+    ReadKind.Settled ∷
     Call.Deliver 0 ∷ Call.Deliver 2 ∷ []
 
 by-lead-replies : List (Reply ℕ)
 by-lead-replies =
-    Reply.Started 1 ∷ Reply.Done ∷ Reply.Declined Refusal.NoMessage ∷ Reply.Done ∷ Reply.Done ∷ Reply.Done ∷ Reply.Finished 1 1 100 6 2 ∷
-    Reply.Started 2 ∷ Reply.Started 3 ∷ Reply.Done ∷ Reply.Done ∷ Reply.Done ∷ Reply.Done ∷ Reply.Started 4 ∷ Reply.Done ∷ Reply.Done ∷ Reply.Done ∷
-    Reply.Done ∷ Reply.Done ∷ Reply.Done ∷ Reply.Done ∷ Reply.Finished 3 2 101 5 2 ∷ Reply.Done ∷ Reply.Declined Refusal.Busy ∷ Reply.Done ∷ Reply.Done ∷
-    Reply.Done ∷ Reply.Done ∷ Reply.Done ∷ Reply.Finished 4 2 101 5 2 ∷ Reply.Done ∷ Reply.Done ∷ Reply.Declined Refusal.NoMessage ∷ Reply.Done ∷
+    Reply.Started 1 ∷ Reply.Done ∷ Reply.Declined Refusal.NoMessage ∷ Reply.Done ∷ Reply.Done ∷ Reply.Done ∷
+    Reply.Finished 1 1 100 6 2 ∷
+    Reply.Started 2 ∷ Reply.Started 3 ∷ Reply.Done ∷ Reply.Done ∷ Reply.Done ∷ Reply.Done ∷ Reply.Started 4 ∷
+    Reply.Done ∷ Reply.Done ∷ Reply.Done ∷
+    Reply.Done ∷ Reply.Done ∷ Reply.Done ∷ Reply.Done ∷ Reply.Finished 3 2 101 5 2 ∷ Reply.Done ∷ Reply.Declined
+    Refusal.Busy ∷ Reply.Done ∷ Reply.Done ∷
+    Reply.Done ∷ Reply.Done ∷ Reply.Done ∷ Reply.Finished 4 2 101 5 2 ∷ Reply.Done ∷ Reply.Done ∷ Reply.Declined
+    Refusal.NoMessage ∷ Reply.Done ∷
     Reply.Done ∷ Reply.Done ∷ Reply.Finished 2 2 101 11 3 ∷ Reply.Started 5 ∷ Reply.Done ∷ Reply.Done ∷ []
 
 by-lead-end : State ℕ
@@ -440,8 +558,10 @@ by-lead-end = record {
       ∷ record { stamp = 2; figure = 101; halted = false }
       ∷ [];
   readers =
-      record { halted = false; operation = 5; phase = Phase.First; replies = 1; «best_stamp» = 2; «best_figure» = 101; holders = 1 }
-      ∷ record { halted = false; operation = 0; phase = Phase.Idle; replies = 5; «best_stamp» = 2; «best_figure» = 101; holders = 5 }
+      record
+      { halted = false; operation = 5; phase = Phase.First; replies = 1; «best_stamp» = 2; «best_figure» = 101; holders = 1 }
+      ∷ record
+      { halted = false; operation = 0; phase = Phase.Idle; replies = 5; «best_stamp» = 2; «best_figure» = 101; holders = 5 }
       ∷ [];
   marks =
       record { operation = 2; relayers = 5; replied = true }
@@ -452,15 +572,22 @@ by-lead-end = record {
       ∷ record { operation = 0; relayers = 0; replied = false }
       ∷ [];
   messages =
-      record { kind = MessageKind.Query; operation = 5; sender = (Party.Reader 0); receiver = (Party.Replica 1); stamp = 0; figure = 5 }
-      ∷ record { kind = MessageKind.Query; operation = 5; sender = (Party.Reader 0); receiver = (Party.Replica 2); stamp = 0; figure = 5 }
+      record
+      { kind = MessageKind.Query; operation = 5; sender = (Party.Reader 0); receiver = (Party.Replica 1); stamp = 0; figure = 5 }
+      ∷ record
+      { kind = MessageKind.Query; operation = 5; sender = (Party.Reader 0); receiver = (Party.Replica 2); stamp = 0; figure = 5 }
       ∷ [];
   journal =
-      record { kind = OperationKind.Write; owner = Party.Writer; started = 1; finished = 2; exchanges = 2; stamp = 1; figure = 100; sent = 6 }
-      ∷ record { kind = OperationKind.Read ReadKind.Relay; owner = (Party.Reader 0); started = 3; finished = 8; exchanges = 3; stamp = 2; figure = 101; sent = 11 }
-      ∷ record { kind = OperationKind.Write; owner = Party.Writer; started = 4; finished = 6; exchanges = 2; stamp = 2; figure = 101; sent = 5 }
-      ∷ record { kind = OperationKind.Read ReadKind.Quick; owner = (Party.Reader 1); started = 5; finished = 7; exchanges = 2; stamp = 2; figure = 101; sent = 5 }
-      ∷ record { kind = OperationKind.Read ReadKind.Settled; owner = (Party.Reader 0); started = 9; finished = 0; exchanges = 0; stamp = 0; figure = 5; sent = 4 }
+      record
+      { kind = OperationKind.Write; owner = Party.Writer; started = 1; finished = 2; exchanges = 2; stamp = 1; figure = 100; sent = 6 }
+      ∷ record
+      { kind = OperationKind.Read ReadKind.Relay; owner = (Party.Reader 0); started = 3; finished = 8; exchanges = 3; stamp = 2; figure = 101; sent = 11 }
+      ∷ record
+      { kind = OperationKind.Write; owner = Party.Writer; started = 4; finished = 6; exchanges = 2; stamp = 2; figure = 101; sent = 5 }
+      ∷ record
+      { kind = OperationKind.Read ReadKind.Quick; owner = (Party.Reader 1); started = 5; finished = 7; exchanges = 2; stamp = 2; figure = 101; sent = 5 }
+      ∷ record
+      { kind = OperationKind.Read ReadKind.Settled; owner = (Party.Reader 0); started = 9; finished = 0; exchanges = 0; stamp = 0; figure = 5; sent = 4 }
       ∷ [];
   finished = 4;
 }

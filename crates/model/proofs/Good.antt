@@ -44,7 +44,8 @@ apart-writer (Party.Replica c) = inr (λ e. omega (arith, ap code e))
 
 pub apart-reader : (r : ℕ) (p : Party) → (Party.Reader r ≡ p) ⊎ (Party.Reader r ≡ p → ⊥)
 apart-reader r Party.Writer = inr (λ e. omega (arith, ap code e))
-apart-reader r (Party.Reader k) = elim (cases-eq r k) [ inl e ↦ inl (ap (λ i. Party.Reader i) e) | inr n ↦ inr (λ e. n (omega (arith, ap code e))) ]
+apart-reader r (Party.Reader k) =
+    elim (cases-eq r k) [ inl e ↦ inl (ap (λ i. Party.Reader i) e) | inr n ↦ inr (λ e. n (omega (arith, ap code e))) ]
 apart-reader r (Party.Replica c) = inr (λ e. omega (arith, ap code e))
 
 -- The operation that a party is at.
@@ -60,10 +61,12 @@ module _ {F : Type 0} where
     pub is : record { stamp = s; figure = f } ≡ w .value (rank s)
 
   -- What the register starts with is true.
-  pub start-true : (w : World F) (start : F) → w .value 0 ≡ unused start → (x : Held F) → x ≡ unused start → True w (x .stamp) (x .figure)
+  pub start-true : (w : World F) (start : F) → w .value 0 ≡ unused start → (x : Held F) → x ≡ unused start
+      → True w (x .stamp) (x .figure)
   start-true w start v x e =
       let z : rank (x .stamp) ≡ 0 = ap (λ y. rank (y .stamp)) e ∙ rank-start in
-      record { written = record { low = omega arith; by-one = λ p. absurd (omega arith) }; is = e ∙ sym v ∙ ap (w .value) (sym z) }
+      record
+      { written = record { low = omega arith; by-one = λ p. absurd (omega arith) }; is = e ∙ sym v ∙ ap (w .value) (sym z) }
 
   pub record Store (q : Rule) (w : World F) (m : Message F) : Type 0 where
     pub settled : 2 ≤ (w .ops (m .operation)) .stage
@@ -137,7 +140,8 @@ module _ {F : Type 0} where
     pub owner-is : (w .ops (d .operation)) .owner ≡ Party.Reader r
     pub reads : (w .ops (d .operation)) .reading ≡ true
     pub true-figure : True w (d .«best_stamp») (d .«best_figure»)
-    pub high : (d .replies ≡ 0 → ⊥) → (t : ℕ) → rank (d .«best_stamp») < t → held q ((w .ops (d .operation)) .snap) t ≡ false
+    pub high : (d .replies ≡ 0 → ⊥) → (t : ℕ) → rank (d .«best_stamp») < t
+        → held q ((w .ops (d .operation)) .snap) t ≡ false
     pub placed : (c : ℕ) → bits (d .replies) c ≡ true → rank (d .«best_stamp») ≤ w .at c
 
   abbrev pub InPhase : Rule → World F → ℕ → Phase → Reader F → Type 0
@@ -161,12 +165,14 @@ module _ {F : Type 0} where
   pub record LineGood (w : World F) (o : Op) (l : Operation F) : Type 0 where
     pub owner-is : 1 ≤ o .stage → l .owner ≡ o .owner
     pub write-rank : 1 ≤ o .stage → o .reading ≡ false → rank (l .stamp) ≡ o .aim
-    pub write-value : 1 ≤ o .stage → o .reading ≡ false → record { stamp = l .stamp; figure = l .figure } ≡ w .value (o .aim)
+    pub write-value : 1 ≤ o .stage → o .reading ≡ false
+        → record { stamp = l .stamp; figure = l .figure } ≡ w .value (o .aim)
 
   -- What the party of operation j, which is o, is at: j, if it is not finished, and no older one.
   pub record AtWork (start : F) (writing : ℕ) (readers : List (Reader F)) (j : ℕ) (o : Op) : Type 0 where
     pub busy : 1 ≤ o .stage → o .stage ≤ 2 → current start writing readers (o .owner) ≡ j
-    pub latest : 1 ≤ o .stage → 0 < current start writing readers (o .owner) → j ≤ current start writing readers (o .owner)
+    pub latest : 1 ≤ o .stage → 0 < current start writing readers (o .owner)
+        → j ≤ current start writing readers (o .owner)
 
   -- What the event at place m says by its answer.
 
@@ -227,7 +233,8 @@ module _ {F : Type 0} where
       (place : ℕ) × (sent : ℕ) × (exchanges : ℕ) × (e .call ≡ Call.Deliver place)
       × (e .reply ≡ Reply.Finished j (x .stamp) (x .figure) sent exchanges)
 
-  pub closed-at : (h : History F) (m : ℕ) (e : Event F) (j : ℕ) (x : Held F) → At h m e → Closes e j x → Finishes h m j x
+  pub closed-at : (h : History F) (m : ℕ) (e : Event F) (j : ℕ) (x : Held F) → At h m e → Closes e j x
+      → Finishes h m j x
   closed-at h m e j x a c = (e, c .0, c .1, c .2, a, c .3, c .4)
 
   module _ (q : Rule) (R : ℕ) (start : F) where
@@ -263,7 +270,10 @@ module _ {F : Type 0} where
 
     module _ (w v : World F) (up : Later q w v) where
       pub true-later : {s : Stamp} {f : F} → True w s f → True v s f
-      true-later {s} t = record { written = written-later q w v up (t .written); is = t .is ∙ sym (up .same-value (rank s) (t .written .low)) }
+      true-later {s} t = record {
+        written = written-later q w v up (t .written);
+        is = t .is ∙ sym (up .same-value (rank s) (t .written .low));
+      }
 
       store-later : (m : Message F) → Store q w m → Store q v m
       store-later m x = let u = up .ops-up (m .operation) in record {
@@ -321,14 +331,17 @@ module _ {F : Type 0} where
         fresh = λ i m. omega (arith, x .fresh i m, up .at-up c, ap (λ f. f i) (u .same-snap (x .born i m)));
       }
 
-      pub messages-later : (t : List (Message F)) → All (λ m. Says q R w (m .kind) m) t → All (λ m. Says q R v (m .kind) m) t
-      messages-later t h = all-weaker (λ m. Says q R w (m .kind) m) (λ m. Says q R v (m .kind) m) (λ m. says-later (m .kind) m) t h
+      pub messages-later : (t : List (Message F)) → All (λ m. Says q R w (m .kind) m) t
+          → All (λ m. Says q R v (m .kind) m) t
+      messages-later t h =
+          all-weaker (λ m. Says q R w (m .kind) m) (λ m. Says q R v (m .kind) m) (λ m. says-later (m .kind) m) t h
 
       -- The operations of party p are at the stages where they were.
       abbrev pub Still : Party → Type 0
       Still p = (j : ℕ) → 1 ≤ (w .ops j) .stage → (w .ops j) .owner ≡ p → (v .ops j) .stage ≡ (w .ops j) .stage
 
-      pub phase-later : (r : ℕ) → Still (Party.Reader r) → (p : Phase) (d : Reader F) → InPhase q w r p d → InPhase q v r p d
+      pub phase-later : (r : ℕ) → Still (Party.Reader r) → (p : Phase) (d : Reader F) → InPhase q w r p d
+          → InPhase q v r p d
       phase-later r st Phase.Idle d x = tt
       phase-later r st Phase.First d x =
           let u = up .ops-up (d .operation) in
@@ -384,14 +397,16 @@ module _ {F : Type 0} where
             write-value = λ s e. x .write-value s e ∙ sym (up .same-value ((w .ops j) .aim) (o .aim-written (o .write-settled s e) .low));
           }
 
-      opens-later : (j : ℕ) → 1 ≤ (w .ops j) .stage → (c : Call F) (sent : List (Message F)) → Opens w j c sent → Opens v j c sent
+      opens-later : (j : ℕ) → 1 ≤ (w .ops j) .stage → (c : Call F) (sent : List (Message F)) → Opens w j c sent
+          → Opens v j c sent
       opens-later j b (Call.Write f) sent x =
           let u = up .ops-up j in
           let e = u .same-aim (x .settled) in
           record {
             writes = u .same-reading b ∙ x .writes;
             settled = omega (arith, x .settled, u .stage-up);
-            figure-is = ap (λ y. y .figure) (ap (v .value) e ∙ up .same-value ((w .ops j) .aim) (x .aim-low)) ∙ x .figure-is;
+            figure-is =
+                ap (λ y. y .figure) (ap (v .value) e ∙ up .same-value ((w .ops j) .aim) (x .aim-low)) ∙ x .figure-is;
             aim-low = omega (arith, x .aim-low, up .last-up);
             owner-is = u .same-owner b ∙ x .owner-is;
             puts = x .puts;
@@ -402,7 +417,8 @@ module _ {F : Type 0} where
       opens-later j b (Call.Duplicate place) sent x = x
       opens-later j b (Call.Halt p) sent x = x
 
-      answers-later : Core q w → (m : ℕ) (c : Call F) (sent : List (Message F)) (r : Reply F) → Answers w m c sent r → Answers v m c sent r
+      answers-later : Core q w → (m : ℕ) (c : Call F) (sent : List (Message F)) (r : Reply F) → Answers w m c sent r
+          → Answers v m c sent r
       answers-later g m c sent (Reply.Started j) x = let u = up .ops-up j in record {
         stage-is = omega (arith, x .stage-is, u .stage-up);
         begun-is = u .same-begun (x .stage-is) ∙ x .begun-is;
@@ -415,13 +431,18 @@ module _ {F : Type 0} where
             stage-is = omega (arith, x .stage-is, u .stage-up);
             ended-is = u .same-ended (x .stage-is) ∙ x .ended-is;
             aim-is = a ∙ x .aim-is;
-            value-is = ap (v .value) a ∙ up .same-value ((w .ops j) .aim) (g .op j .aim-written (omega (arith, x .stage-is)) .low) ∙ x .value-is;
+            value-is =
+                ap (v .value) a ∙ up .same-value ((w .ops j) .aim)
+                (g .op j .aim-written (omega (arith, x .stage-is)) .low) ∙ x .value-is;
           }
       answers-later g m c sent Reply.Done x = tt
       answers-later g m c sent (Reply.Declined e) x = tt
 
       pub told-later : Core q w → (m : ℕ) (e : Event F) → Told q R w m e → Told q R v m e
-      told-later g m e x = record { answers = answers-later g m (e .call) (e .sent) (e .reply) (x .answers); sent-says = messages-later (e .sent) (x .sent-says) }
+      told-later g m e x = record {
+        answers = answers-later g m (e .call) (e .sent) (e .reply) (x .answers);
+        sent-says = messages-later (e .sent) (x .sent-says);
+      }
 
       -- What a step has to give.
       pub record Gives (s : State F) (h : History F) (e : Event F) : Type 0 where
@@ -441,10 +462,13 @@ module _ {F : Type 0} where
         pub lines : (j : ℕ) → LineGood v (v .ops j) (line s j)
         pub at-work : (j : ℕ) → AtWork (s .start) (s .writer .operation) (s .readers) j (v .ops j)
         pub told : Told q R v (length h) e
-        pub begun : (j : ℕ) → 1 ≤ (v .ops j) .stage → (1 ≤ (w .ops j) .stage) ⊎ (((v .ops j) .begun ≡ length h) × (e .reply ≡ Reply.Started j))
-        pub ended : (j : ℕ) → 3 ≤ (v .ops j) .stage → (3 ≤ (w .ops j) .stage) ⊎ (((v .ops j) .ended ≡ length h) × Closes e j (shown v j))
+        pub begun : (j : ℕ) → 1 ≤ (v .ops j) .stage
+            → (1 ≤ (w .ops j) .stage) ⊎ (((v .ops j) .begun ≡ length h) × (e .reply ≡ Reply.Started j))
+        pub ended : (j : ℕ) → 3 ≤ (v .ops j) .stage
+            → (3 ≤ (w .ops j) .stage) ⊎ (((v .ops j) .ended ≡ length h) × Closes e j (shown v j))
 
-      pub advance : (s s′ : State F) (h : History F) (e : Event F) → Good w s h → Gives s′ h e → Good v s′ (h ++ e ∷ [])
+      pub advance : (s s′ : State F) (h : History F) (e : Event F) → Good w s h → Gives s′ h e
+          → Good v s′ (h ++ e ∷ [])
       advance s s′ h e g n = record {
         core = n .core;
         first-value = up .same-value 0 (omega arith) ∙ g .first-value;
@@ -467,15 +491,19 @@ module _ {F : Type 0} where
           | inr d ↦ subst (λ y. Told q R v m y) (d .1) (subst (λ y. Told q R v y e) (sym (d .0)) (n .told))
         ];
         begun = λ j l. elim (n .begun j l) [
-          | inl o ↦ let b = g .begun j o in rw (up .ops-up j .same-begun o) (b .0, at-old h e ((w .ops j) .begun) (b .0) (b .1), b .2)
+          | inl o ↦ let b =
+              g .begun j o in rw (up .ops-up j .same-begun o)
+              (b .0, at-old h e ((w .ops j) .begun) (b .0) (b .1), b .2)
           | inr d ↦ rw (d .0) (e, at-new h e, d .1)
         ];
         ended = λ j l. elim (n .ended j l) [
           | inl o ↦
               let b = g .ended j o in
               let a = up .ops-up j .same-aim (omega arith) in
-              let k : shown v j ≡ shown w j = ap (v .value) a ∙ up .same-value ((w .ops j) .aim) (g .core .op j .aim-written (omega arith) .low) in
-              rw (up .ops-up j .same-ended o) (subst (Finishes (h ++ e ∷ []) ((w .ops j) .ended) j) (sym k) (b .0, b .1, b .2, b .3, at-old h e ((w .ops j) .ended) (b .0) (b .4), b .5, b .6))
+              let k : shown v j ≡ shown w j = ap (v .value) a ∙ up .same-value ((w .ops j) .aim)
+              (g .core .op j .aim-written (omega arith) .low) in
+              rw (up .ops-up j .same-ended o)
+              (subst (Finishes (h ++ e ∷ []) ((w .ops j) .ended) j) (sym k) (b .0, b .1, b .2, b .3, at-old h e ((w .ops j) .ended) (b .0) (b .4), b .5, b .6))
           | inr d ↦ rw (d .0) (closed-at (h ++ e ∷ []) (length h) e j (shown v j) (at-new h e) (d .1))
         ];
       }

@@ -32,7 +32,8 @@ use Rattle.model.proofs.Reserve.{pending, unanswered, unreplied, reserve, unre
 module _ {F : Type 0} where
   -- What is in reserve for operation n of state s, where the readers and the marks are these.
   abbrev pub reserved : Rule → State F → ℕ → List (Reader F) → List RelayMark → ℕ
-  reserved rule s n readers marks = reserve (rule .size) (s .start) ((line s n) .kind) (index ((line s n) .owner)) n readers marks
+  reserved rule s n readers marks =
+      reserve (rule .size) (s .start) ((line s n) .kind) (index ((line s n) .owner)) n readers marks
 
   -- What message m has come to. Only its operation sends.
   pub record Handled (rule : Rule) (s : State F) (m : Message F) (e : Effect F) : Type 0 where
@@ -60,7 +61,8 @@ module _ {F : Type 0} where
     }
 
     -- one answer, for a message that is worth one
-    answers-one : (kind : MessageKind) → weight (rule .size) (m .kind) ≡ 1 → weight (rule .size) kind ≡ 0 → (x : Held F) (n : ℕ) (rest : ℕ)
+    answers-one : (kind : MessageKind) → weight (rule .size) (m .kind) ≡ 1 → weight (rule .size) kind ≡ 0
+        → (x : Held F) (n : ℕ) (rest : ℕ)
         → of-operation n (answer s m kind x ∷ []) + load (rule .size) n (answer s m kind x ∷ []) + rest ≤ load-of (rule .size) n m + rest
     unfolding of-operation load
     answers-one kind e z x n rest = elim (cases-eq (m .operation) n) [
@@ -68,7 +70,8 @@ module _ {F : Type 0} where
       | inr u ↦ omega (arith, only-other n (m .operation) 1 u, only-other n (m .operation) (weight (rule .size) kind) u)
     ]
 
-    offer-handled : (ack : MessageKind) → weight (rule .size) (m .kind) ≡ 1 → weight (rule .size) ack ≡ 0 → Handled rule s m (on-offer s m ack)
+    offer-handled : (ack : MessageKind) → weight (rule .size) (m .kind) ≡ 1 → weight (rule .size) ack ≡ 0
+        → Handled rule s m (on-offer s m ack)
     unfolding on-offer
     offer-handled ack e z = record {
       start-kept = refl;
@@ -100,7 +103,9 @@ module _ {F : Type 0} where
       readers-kept = refl;
       marks-kept = refl;
       lines = lines-same (s .journal);
-      its-own = all-to-all (m .operation) (m .operation) refl (rule .size) MessageKind.Relay (m .receiver) (held s (index (m .receiver)));
+      its-own =
+          all-to-all (m .operation) (m .operation) refl (rule .size) MessageKind.Relay (m .receiver)
+          (held s (index (m .receiver)));
       spends = λ n b.
           let x = held s (index (m .receiver)) in
           let o = of-operation-to-all n (rule .size) MessageKind.Relay (m .operation) (m .receiver) x in
@@ -140,12 +145,17 @@ module _ {F : Type 0} where
     -- A reader becomes d
 
     module _ (r : ℕ) (d : Reader F) where
-      reader-below : (n : ℕ) → pending (rule .size) n d ≤ pending (rule .size) n (reader s r) → reserved rule s n (set (s .readers) r d) (s .marks) ≤ reserved rule s n (s .readers) (s .marks)
+      reader-below : (n : ℕ) → pending (rule .size) n d ≤ pending (rule .size) n (reader s r)
+          → reserved rule s n (set (s .readers) r d) (s .marks) ≤ reserved rule s n (s .readers) (s .marks)
       reader-below n h =
-          let e = ap (λ w. unreplied n w (index ((line s n) .owner)) (rule .size) (s .marks)) (length-set (s .readers) r d) in
-          reserve-below _ _ _ _ _ _ (set-below (pending (rule .size) n) (s .readers) r d (new-reader (s .start)) h (index ((line s n) .owner))) (le-of-eq e)
+          let e = ap (λ w. unreplied n w (index ((line s n) .owner)) (rule .size) (s .marks))
+          (length-set (s .readers) r d) in
+          reserve-below _ _ _ _ _ _
+          (set-below (pending (rule .size) n) (s .readers) r d (new-reader (s .start)) h (index ((line s n) .owner)))
+          (le-of-eq e)
 
-      reader-handled : ((n : ℕ) → pending (rule .size) n d ≤ pending (rule .size) n (reader s r)) → Handled rule s m (quiet (with-reader s r d))
+      reader-handled : ((n : ℕ) → pending (rule .size) n d ≤ pending (rule .size) n (reader s r))
+          → Handled rule s m (quiet (with-reader s r d))
       unfolding of-operation load
       reader-handled h = record {
         start-kept = refl;
@@ -172,9 +182,12 @@ module _ {F : Type 0} where
       spends = λ n b. omega (arith, reader-below r (reader-freed d) n (omega (arith, pending-freed n d b)));
     }
 
-    last-handled : (r : ℕ) (d : Reader F) (exchanges : ℕ) → ((n : ℕ) → pending (rule .size) n d ≤ pending (rule .size) n (reader s r)) → Handled rule s m (after-last rule s r d exchanges)
+    last-handled : (r : ℕ) (d : Reader F) (exchanges : ℕ)
+        → ((n : ℕ) → pending (rule .size) n d ≤ pending (rule .size) n (reader s r))
+        → Handled rule s m (after-last rule s r d exchanges)
     last-handled r d exchanges h =
-        cond-both (rule .round (bits (d .replies))) _ _ (Handled rule s m) (λ _. finish-handled r d exchanges) (λ _. reader-handled r d h)
+        cond-both (rule .round (bits (d .replies))) _ _ (Handled rule s m) (λ _. finish-handled r d exchanges)
+        (λ _. reader-handled r d h)
 
     back-ack-handled : Handled rule s m (on-back-ack rule s m)
     unfolding on-back-ack
@@ -184,10 +197,12 @@ module _ {F : Type 0} where
         (λ _. last-handled r (confirmed (reader s r) (index (m .sender))) 4 (λ n. omega arith))
         (λ _. quiet-handled)
 
-    lowered-pending : (n : ℕ) (d : Reader F) (c : ℕ) (x : Held F) → pending (rule .size) n (lowered d c x) ≤ pending (rule .size) n d
+    lowered-pending : (n : ℕ) (d : Reader F) (c : ℕ) (x : Held F)
+        → pending (rule .size) n (lowered d c x) ≤ pending (rule .size) n d
     unfolding lowered
     lowered-pending n d c x =
-        cond-both (eqb (d .replies) 0 || ltb (rank (x .stamp)) (rank (d .«best_stamp»))) _ _ (λ (y : Reader F). pending (rule .size) n y ≤ pending (rule .size) n d) (λ _. omega arith) (λ _. omega arith)
+        cond-both (eqb (d .replies) 0 || ltb (rank (x .stamp)) (rank (d .«best_stamp»))) _ _
+        (λ (y : Reader F). pending (rule .size) n y ≤ pending (rule .size) n d) (λ _. omega arith) (λ _. omega arith)
 
     reply-handled : Handled rule s m (on-reply rule s m)
     unfolding on-reply
@@ -199,7 +214,8 @@ module _ {F : Type 0} where
 
     -- HAVE
 
-    heard-same : (d : Reader F) (c : ℕ) (x : Held F) → ((heard d c x) .operation ≡ d .operation) × ((heard d c x) .phase ≡ d .phase)
+    heard-same : (d : Reader F) (c : ℕ) (x : Held F)
+        → ((heard d c x) .operation ≡ d .operation) × ((heard d c x) .phase ≡ d .phase)
     unfolding heard
     heard-same d c x =
         cond-both (ltb (rank (d .«best_stamp»)) (rank (x .stamp))) _ _ Same (λ _. (refl, refl))
@@ -220,17 +236,21 @@ module _ {F : Type 0} where
     owner-is r (Party.Replica c) e = absurd (both-ways false refl e)
 
     -- the reader in its first round owns the line
-    own-line : (r : ℕ) (d : Reader F) → placed s r d ≡ true → in-first (d .phase) ≡ true → index ((line s (d .operation)) .owner) ≡ r
+    own-line : (r : ℕ) (d : Reader F) → placed s r d ≡ true → in-first (d .phase) ≡ true
+        → index ((line s (d .operation)) .owner) ≡ r
     own-line r d p f = elim (or-cases (idle (d .phase) && eqb (d .operation) 0) _ p) [
       | inl e ↦ absurd (both-ways (idle (d .phase)) (not-idle (d .phase) f) ((and-parts _ _ e) .0))
       | inr e ↦ owner-is r ((line s (d .operation)) .owner) ((and-parts (is-read ((line s (d .operation)) .kind)) _ ((and-parts (not (idle (d .phase)) && in-journal s (d .operation)) _ e) .1)) .1)
     ]
 
-    pending-first : (n : ℕ) (d : Reader F) → d .operation ≡ n → in-first (d .phase) ≡ true → pending (rule .size) n d ≡ 2 * rule .size
-    pending-first n d e f = cond-true (eqb (d .operation) n && in-first (d .phase)) _ _ (rw (eq-eqb (d .operation) n e, f) refl)
+    pending-first : (n : ℕ) (d : Reader F) → d .operation ≡ n → in-first (d .phase) ≡ true
+        → pending (rule .size) n d ≡ 2 * rule .size
+    pending-first n d e f =
+        cond-true (eqb (d .operation) n && in-first (d .phase)) _ _ (rw (eq-eqb (d .operation) n e, f) refl)
 
     module _ (r : ℕ) (d : Reader F) where
-      place-spends : r < length (s .readers) → d .operation ≡ m .operation → ((n : ℕ) → pending (rule .size) n d ≡ pending (rule .size) n (reader s r)) → in-first (d .phase) ≡ true
+      place-spends : r < length (s .readers) → d .operation ≡ m .operation
+          → ((n : ℕ) → pending (rule .size) n d ≡ pending (rule .size) n (reader s r)) → in-first (d .phase) ≡ true
           → is-round-read ((line s (m .operation)) .kind) ≡ true → index ((line s (m .operation)) .owner) ≡ r
           → (n : ℕ) → 1 ≤ n
           → of-operation n (to-all (rule .size) MessageKind.Back (d .operation) (Party.Reader r) (best d)) + load (rule .size) n (to-all (rule .size) MessageKind.Back (d .operation) (Party.Reader r) (best d))
@@ -244,23 +264,36 @@ module _ {F : Type 0} where
                 let e : m .operation ≡ n = omega arith in
                 let kind-is = subst (λ (k : ℕ). is-round-read ((line s k) .kind) ≡ true) e round in
                 let owner-of = subst (λ (k : ℕ). index ((line s k) .owner) ≡ r) e own in
-                let old = ap (λ (k : ℕ). pending (rule .size) n (getD (s .readers) k (new-reader (s .start)))) owner-of in
-                let new = ap (λ (k : ℕ). pending (rule .size) n (getD (set (s .readers) r (placing d)) k (new-reader (s .start)))) owner-of in
-                let at-r = ap (pending (rule .size) n) (getD-set-same (s .readers) r (placing d) (new-reader (s .start)) inside) in
+                let old = ap (λ (k : ℕ). pending (rule .size) n (getD (s .readers) k (new-reader (s .start))))
+                owner-of in
+                let new = ap
+                (λ (k : ℕ). pending (rule .size) n (getD (set (s .readers) r (placing d)) k (new-reader (s .start))))
+                owner-of in
+                let at-r = ap (pending (rule .size) n)
+                (getD-set-same (s .readers) r (placing d) (new-reader (s .start)) inside) in
                 let full = pending-first n d u first in
-                let before = cond-true (is-round-read ((line s n) .kind)) (pending (rule .size) n (getD (s .readers) (index ((line s n) .owner)) (new-reader (s .start)))) 0 kind-is in
-                let after = cond-true (is-round-read ((line s n) .kind)) (pending (rule .size) n (getD (set (s .readers) r (placing d)) (index ((line s n) .owner)) (new-reader (s .start)))) 0 kind-is in
-                let rest = ap (λ (w : ℕ). cond (is-relay-read ((line s n) .kind)) (unreplied n w (index ((line s n) .owner)) (rule .size) (s .marks)) 0) (length-set (s .readers) r (placing d)) in
-                omega (arith, zero-placing n, same n, only-same n (d .operation) (rule .size) u, only-same n (d .operation) (rule .size * 1) u)
+                let before = cond-true (is-round-read ((line s n) .kind))
+                (pending (rule .size) n (getD (s .readers) (index ((line s n) .owner)) (new-reader (s .start)))) 0
+                kind-is in
+                let after = cond-true (is-round-read ((line s n) .kind))
+                (pending (rule .size) n (getD (set (s .readers) r (placing d)) (index ((line s n) .owner)) (new-reader (s .start))))
+                0 kind-is in
+                let rest = ap
+                (λ (w : ℕ). cond (is-relay-read ((line s n) .kind)) (unreplied n w (index ((line s n) .owner)) (rule .size) (s .marks)) 0)
+                (length-set (s .readers) r (placing d)) in
+                omega
+                (arith, zero-placing n, same n, only-same n (d .operation) (rule .size) u, only-same n (d .operation) (rule .size * 1) u)
             | inr u ↦
                 let below = reader-below r (placing d) n (omega (arith, zero-placing n)) in
-                omega (arith, only-other n (d .operation) (rule .size) u, only-other n (d .operation) (rule .size * 1) u)
+                omega
+                (arith, only-other n (d .operation) (rule .size) u, only-other n (d .operation) (rule .size * 1) u)
           ]
         where
           zero-placing : (n : ℕ) → pending (rule .size) n (placing d) ≡ 0
           zero-placing n = grind (arith, tells)
 
-      place-handled : r < length (s .readers) → d .operation ≡ m .operation → ((n : ℕ) → pending (rule .size) n d ≡ pending (rule .size) n (reader s r)) → in-first (d .phase) ≡ true
+      place-handled : r < length (s .readers) → d .operation ≡ m .operation
+          → ((n : ℕ) → pending (rule .size) n d ≡ pending (rule .size) n (reader s r)) → in-first (d .phase) ≡ true
           → is-round-read ((line s (m .operation)) .kind) ≡ true → index ((line s (m .operation)) .owner) ≡ r
           → Handled rule s m (sending (with-reader s r (placing d)) (to-all (rule .size) MessageKind.Back (d .operation) (Party.Reader r) (best d)))
       place-handled inside op same first round own = record {
@@ -273,7 +306,8 @@ module _ {F : Type 0} where
         spends = place-spends inside op same first round own;
       }
 
-      after-have-handled : r < length (s .readers) → d .operation ≡ m .operation → ((n : ℕ) → pending (rule .size) n d ≡ pending (rule .size) n (reader s r)) → in-first (d .phase) ≡ true
+      after-have-handled : r < length (s .readers) → d .operation ≡ m .operation
+          → ((n : ℕ) → pending (rule .size) n d ≡ pending (rule .size) n (reader s r)) → in-first (d .phase) ≡ true
           → is-round-read ((line s (m .operation)) .kind) ≡ true → index ((line s (m .operation)) .owner) ≡ r
           → Handled rule s m (after-have rule s r d)
       after-have-handled inside op same first round own =
@@ -303,19 +337,24 @@ module _ {F : Type 0} where
 
     -- RELAY
 
-    place-in-marks : (c r : ℕ) → c < rule .size → r < length (s .readers) → length (s .marks) ≡ rule .size * length (s .readers) → mark-place s c r < length (s .marks)
+    place-in-marks : (c r : ℕ) → c < rule .size → r < length (s .readers)
+        → length (s .marks) ≡ rule .size * length (s .readers) → mark-place s c r < length (s .marks)
     place-in-marks c r h k e =
         let p = mul-le-mul-right (length (s .readers)) h in
         omega arith
 
     -- replica c's mark for reader r becomes k, and so much is sent
     module _ (c r : ℕ) (k : RelayMark) (x : Held F) where
-      mark-below : (n : ℕ) → unanswered n k ≤ unanswered n (mark s c r) → reserved rule s n (s .readers) (set (s .marks) (mark-place s c r) k) ≤ reserved rule s n (s .readers) (s .marks)
+      mark-below : (n : ℕ) → unanswered n k ≤ unanswered n (mark s c r)
+          → reserved rule s n (s .readers) (set (s .marks) (mark-place s c r) k) ≤ reserved rule s n (s .readers) (s .marks)
       mark-below n h =
-          reserve-below _ _ (pending (rule .size) n (getD (s .readers) (index ((line s n) .owner)) (new-reader (s .start)))) _ _ _ (omega arith)
+          reserve-below _ _
+          (pending (rule .size) n (getD (s .readers) (index ((line s n) .owner)) (new-reader (s .start)))) _ _ _
+          (omega arith)
           (unreplied-below n (length (s .readers)) (index ((line s n) .owner)) (rule .size) (s .marks) (mark-place s c r) k h)
 
-      mark-handled : ((n : ℕ) → unanswered n k ≤ unanswered n (mark s c r)) → Handled rule s m (quiet (with-mark (with-held s c x) c r k))
+      mark-handled : ((n : ℕ) → unanswered n k ≤ unanswered n (mark s c r))
+          → Handled rule s m (quiet (with-mark (with-held s c x) c r k))
       unfolding of-operation load
       mark-handled h = record {
         start-kept = refl;
@@ -327,7 +366,8 @@ module _ {F : Type 0} where
         spends = λ n b. omega (arith, mark-below n (h n));
       }
 
-      replies-spends : c < rule .size → mark-place s c r < length (s .marks) → ((n : ℕ) → unanswered n k ≤ unanswered n (mark s c r))
+      replies-spends : c < rule .size → mark-place s c r < length (s .marks)
+          → ((n : ℕ) → unanswered n k ≤ unanswered n (mark s c r))
           → unanswered (m .operation) (mark s c r) ≡ 1 → unanswered (m .operation) k ≡ 0
           → is-relay-read ((line s (m .operation)) .kind) ≡ true → index ((line s (m .operation)) .owner) ≡ r
           → (n : ℕ) → 1 ≤ n
@@ -341,15 +381,21 @@ module _ {F : Type 0} where
             let old-n = subst (λ (q : ℕ). unanswered q (mark s c r) ≡ 1) e old in
             let new-n = subst (λ (q : ℕ). unanswered q k ≡ 0) e new in
             let less = unreplied-less n (length (s .readers)) r (rule .size) (s .marks) c k low inside old-n new-n in
-            let before = cond-true (is-relay-read ((line s n) .kind)) (unreplied n (length (s .readers)) (index ((line s n) .owner)) (rule .size) (s .marks)) 0 kind-is in
-            let after = cond-true (is-relay-read ((line s n) .kind)) (unreplied n (length (s .readers)) (index ((line s n) .owner)) (rule .size) (set (s .marks) (mark-place s c r) k)) 0 kind-is in
+            let before = cond-true (is-relay-read ((line s n) .kind))
+            (unreplied n (length (s .readers)) (index ((line s n) .owner)) (rule .size) (s .marks)) 0 kind-is in
+            let after = cond-true (is-relay-read ((line s n) .kind))
+            (unreplied n (length (s .readers)) (index ((line s n) .owner)) (rule .size) (set (s .marks) (mark-place s c r) k))
+            0 kind-is in
             let before-r = ap (λ (q : ℕ). unreplied n (length (s .readers)) q (rule .size) (s .marks)) owner-of in
-            let after-r = ap (λ (q : ℕ). unreplied n (length (s .readers)) q (rule .size) (set (s .marks) (mark-place s c r) k)) owner-of in
+            let after-r = ap
+            (λ (q : ℕ). unreplied n (length (s .readers)) q (rule .size) (set (s .marks) (mark-place s c r) k))
+            owner-of in
             omega (arith, only-same n (m .operation) 1 e, only-same n (m .operation) 0 e)
         | inr u ↦ omega (arith, mark-below n (h n), only-other n (m .operation) 1 u, only-other n (m .operation) 0 u)
       ]
 
-      replies-handled : c < rule .size → mark-place s c r < length (s .marks) → ((n : ℕ) → unanswered n k ≤ unanswered n (mark s c r))
+      replies-handled : c < rule .size → mark-place s c r < length (s .marks)
+          → ((n : ℕ) → unanswered n k ≤ unanswered n (mark s c r))
           → unanswered (m .operation) (mark s c r) ≡ 1 → unanswered (m .operation) k ≡ 0
           → is-relay-read ((line s (m .operation)) .kind) ≡ true → index ((line s (m .operation)) .owner) ≡ r
           → Handled rule s m (sending (with-mark (with-held s c x) c r k) (answer (with-held s c x) m MessageKind.Reply x ∷ []))
@@ -375,7 +421,8 @@ module _ {F : Type 0} where
       spends = λ n b. omega arith;
     }
 
-    relay-handled : index (m .receiver) < rule .size → index ((line s (m .operation)) .owner) < length (s .readers) → length (s .marks) ≡ rule .size * length (s .readers)
+    relay-handled : index (m .receiver) < rule .size → index ((line s (m .operation)) .owner) < length (s .readers)
+        → length (s .marks) ≡ rule .size * length (s .readers)
         → is-relay-read ((line s (m .operation)) .kind) ≡ true → Handled rule s m (on-relay rule s m)
     unfolding on-relay
     relay-handled low inside shape relay =
@@ -388,7 +435,8 @@ module _ {F : Type 0} where
         cond-both (ltb n (k .operation)) _ _ (Handled rule s m) (λ _. held-handled c x)
         (λ t. cond-both (rule .round (bits ((marked k n from) .relayers)) && not ((marked k n from) .replied)) _ _ (Handled rule s m)
         (λ u.
-        let fresh = not-true ((marked k n from) .replied) ((and-parts (rule .round (bits ((marked k n from) .relayers))) (not ((marked k n from) .replied)) u) .1) in
+        let fresh = not-true ((marked k n from) .replied)
+        ((and-parts (rule .round (bits ((marked k n from) .relayers))) (not ((marked k n from) .replied)) u) .1) in
         replies-handled c r (mark-replied (marked k n from)) x low (place-in-marks c r low inside shape)
         (λ q. omega (arith, replied-below q (marked k n from), marked-below q n from k t))
         (could-reply n from k t fresh) (has-replied n (marked k n from) (marked-operation n from k t)) relay refl)
@@ -406,7 +454,8 @@ module _ {F : Type 0} where
     replica-in (Party.Reader r) e = absurd (both-ways false refl e)
     replica-in (Party.Replica c) e = ltb-true c (rule .size) e
 
-    owner-in : (k : OperationKind) (p : Party) → is-relay-read k ≡ true → owned s k p ≡ true → index p < length (s .readers)
+    owner-in : (k : OperationKind) (p : Party) → is-relay-read k ≡ true → owned s k p ≡ true
+        → index p < length (s .readers)
     owner-in OperationKind.Write p e o = absurd (both-ways false refl e)
     owner-in (OperationKind.Read k) p e o = reader-in p o
 
@@ -420,20 +469,30 @@ module _ {F : Type 0} where
     on-handled MessageKind.PutAck e to b p shape = put-ack-handled
     on-handled MessageKind.Query e to b p shape = query-handled (ap (weight (rule .size)) e)
     on-handled MessageKind.Have e to b p shape =
-        let inside = reader-in (m .receiver) ((and-parts (a-replica rule (m .sender)) (a-reader s (m .receiver)) to) .1) in
-        have-handled inside ((and-parts (is-round-read ((line s (m .operation)) .kind)) (owned s ((line s (m .operation)) .kind) ((line s (m .operation)) .owner)) b) .0) (p (index (m .receiver)) inside)
+        let inside = reader-in (m .receiver)
+        ((and-parts (a-replica rule (m .sender)) (a-reader s (m .receiver)) to) .1) in
+        have-handled inside
+        ((and-parts (is-round-read ((line s (m .operation)) .kind)) (owned s ((line s (m .operation)) .kind) ((line s (m .operation)) .owner)) b) .0)
+        (p (index (m .receiver)) inside)
     on-handled MessageKind.Back e to b p shape = offer-handled MessageKind.BackAck (ap (weight (rule .size)) e) refl
     on-handled MessageKind.BackAck e to b p shape = back-ack-handled
     on-handled MessageKind.Fan e to b p shape = fan-handled (ap (weight (rule .size)) e)
     on-handled MessageKind.Relay e to b p shape =
-        let low = replica-in (m .receiver) ((and-parts (a-replica rule (m .sender)) (a-replica rule (m .receiver)) to) .1) in
-        let booking = and-parts (is-relay-read ((line s (m .operation)) .kind)) (owned s ((line s (m .operation)) .kind) ((line s (m .operation)) .owner)) b in
-        relay-handled low (owner-in ((line s (m .operation)) .kind) ((line s (m .operation)) .owner) (booking .0) (booking .1)) shape (booking .0)
+        let low = replica-in (m .receiver)
+        ((and-parts (a-replica rule (m .sender)) (a-replica rule (m .receiver)) to) .1) in
+        let booking = and-parts (is-relay-read ((line s (m .operation)) .kind))
+        (owned s ((line s (m .operation)) .kind) ((line s (m .operation)) .owner)) b in
+        relay-handled low
+        (owner-in ((line s (m .operation)) .kind) ((line s (m .operation)) .owner) (booking .0) (booking .1)) shape
+        (booking .0)
     on-handled MessageKind.Reply e to b p shape = reply-handled
 
-    pub received-handled : suits rule s (m .kind) (m .sender) (m .receiver) ≡ true → booked s (m .kind) (line s (m .operation)) ≡ true
+    pub received-handled : suits rule s (m .kind) (m .sender) (m .receiver) ≡ true
+        → booked s (m .kind) (line s (m .operation)) ≡ true
         → ((r : ℕ) → r < length (s .readers) → placed s r (reader s r) ≡ true)
         → length (s .marks) ≡ rule .size * length (s .readers)
         → Handled rule s m (received rule s m)
     unfolding received
-    received-handled to b p shape = cond-both (halted s (m .receiver)) _ _ (Handled rule s m) (λ _. quiet-handled) (λ _. on-handled (m .kind) refl to b p shape)
+    received-handled to b p shape =
+        cond-both (halted s (m .receiver)) _ _ (Handled rule s m) (λ _. quiet-handled)
+        (λ _. on-handled (m .kind) refl to b p shape)

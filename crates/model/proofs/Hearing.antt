@@ -32,34 +32,44 @@ use Rattle.model.proofs.Moves as moves
 use Rattle.model.proofs.Ends.{readers-changed, writer-changed, read-ends}
 use Rattle.model.proofs.Waits.{to-first, of-first, to-second, of-second, counts-parts, hearing-heard, hears}
 
-module _ {F : Type 0} (q : Rule) (R : ℕ) (law : Lawful q) (start : F) (w : World F) (s : State F) (h : History F) (g : Good q R start w s h) (place : ℕ) (taken : List (Message F)) where
+module _ {F : Type 0} (q : Rule) (R : ℕ) (law : Lawful q) (start : F) (w : World F) (s : State F) (h : History F)
+    (g : Good q R start w s h) (place : ℕ) (taken : List (Message F)) where
   abbrev K : Effect F → Type 0
   K = Kept q R start h (delivery place taken)
 
   -- Reader r, now d, is one reply further and waits on.
-  pub waits : (r : ℕ) (d : Reader F) → d .operation ≡ (reader s r) .operation → InPhase q (ticked w) r (d .phase) d → K (quiet (with-reader s r d))
+  pub waits : (r : ℕ) (d : Reader F) → d .operation ≡ (reader s r) .operation → InPhase q (ticked w) r (d .phase) d
+      → K (quiet (with-reader s r d))
   waits r d same-op x = record {
     world = ticked w;
     good =
-        ticks q R law start w s h g (s .replicas) (set (s .readers) r d) (s .messages) (s .writer) _ (record { answers = tt; sent-says = tt }) (g .replicas-are) (length-set (s .readers) r d ∙ g .readers-are) refl refl
-        (each-set-all (λ k y. y .operation ≡ (reader s k) .operation) (s .readers) r d _ same-op (λ k. refl)) (g .at-is)
+        ticks q R law start w s h g (s .replicas) (set (s .readers) r d) (s .messages) (s .writer) _
+        (record { answers = tt; sent-says = tt }) (g .replicas-are) (length-set (s .readers) r d ∙ g .readers-are)
+        refl refl
+        (each-set-all (λ k y. y .operation ≡ (reader s k) .operation) (s .readers) r d _ same-op (λ k. refl))
+        (g .at-is)
         (old-figures q R law start w s h g) (old-messages q R law start w s h g)
-        (each-set-all (λ k y. InPhase q (ticked w) k (y .phase) y) (s .readers) r d _ x (old-reader q R law start w s h g)) (old-writer q R law start w s h g);
+        (each-set-all (λ k y. InPhase q (ticked w) k (y .phase) y) (s .readers) r d _ x (old-reader q R law start w s h g))
+        (old-writer q R law start w s h g);
   }
 
-  module _ (r : ℕ) (d : Reader F) (x : First w r d) (e : in-first (d .phase) ≡ true) (same-op : d .operation ≡ (reader s r) .operation) where
+  module _ (r : ℕ) (d : Reader F) (x : First w r d) (e : in-first (d .phase) ≡ true)
+      (same-op : d .operation ≡ (reader s r) .operation) where
     abbrev j : ℕ
     j = d .operation
 
-    above-best : q .round (bits (d .replies)) ≡ true → (t : ℕ) → rank (d .«best_stamp») < t → world.held q ((w .ops j) .snap) t ≡ false
+    above-best : q .round (bits (d .replies)) ≡ true → (t : ℕ) → rank (d .«best_stamp») < t
+        → world.held q ((w .ops j) .snap) t ≡ false
     above-best b t l = not-held q law (bits (d .replies)) ((w .ops j) .snap) t b (λ c m. omega (arith, x .asked c m))
 
     first-ends : q .round (bits (d .replies)) ≡ true → q .hold (bits (d .holders)) ≡ true → K (read-finishing s r d 2)
     first-ends b k =
         let st = x .stage-is in
         let hold = held-from q law (bits (d .holders)) (w .at) (rank (d .«best_stamp»)) k (x .holding) in
-        let new = good-quick q law w (g .core) j (rank (d .«best_stamp»)) st (x .reads) (x .true-figure .written) (above-best b) hold in
-        read-ends q R law start w s h g j r (x .owner-is) (reader-freed d) refl (rank (d .«best_stamp»)) (omega arith) (omega arith) (λ l. absurd (omega arith)) new (best d) refl (x .true-figure .is) refl place taken 2
+        let new = good-quick q law w (g .core) j (rank (d .«best_stamp»)) st (x .reads) (x .true-figure .written)
+        (above-best b) hold in
+        read-ends q R law start w s h g j r (x .owner-is) (reader-freed d) refl (rank (d .«best_stamp»)) (omega arith)
+        (omega arith) (λ l. absurd (omega arith)) new (best d) refl (x .true-figure .is) refl place taken 2
 
     module _ (b : q .round (bits (d .replies)) ≡ true) where
       abbrev o₄ : Op
@@ -90,8 +100,11 @@ module _ {F : Type 0} (q : Rule) (R : ℕ) (law : Lawful q) (start : F) (w : Wor
       abbrev ds : List (Reader F)
       ds = set (s .readers) r (placing d)
 
-      same-ops : (p : Party) → current (s .start) (s .writer .operation) ds p ≡ current (s .start) (s .writer .operation) (s .readers) p
-      same-ops = same-current (s .start) _ _ (s .readers) ds refl (each-set-all (λ k y. y .operation ≡ (reader s k) .operation) (s .readers) r (placing d) _ same-op (λ k. refl))
+      same-ops : (p : Party)
+          → current (s .start) (s .writer .operation) ds p ≡ current (s .start) (s .writer .operation) (s .readers) p
+      same-ops =
+          same-current (s .start) _ _ (s .readers) ds refl
+          (each-set-all (λ k y. y .operation ≡ (reader s k) .operation) (s .readers) r (placing d) _ same-op (λ k. refl))
 
       abbrev goes : Effect F
       goes = sending (with-reader s r (placing d)) (to-all (q .size) MessageKind.Back j (Party.Reader r) (best d))
@@ -100,7 +113,10 @@ module _ {F : Type 0} (q : Rule) (R : ℕ) (law : Lawful q) (start : F) (w : Wor
       settles = record {
         world = v₄;
         good = advance q R start w v₄ up₄ s _ h _ g (record {
-          core = core-changed q law w j o₄ on₄ (good-settled q law w (g .core) j (rank (d .«best_stamp»)) (x .stage-is) (x .reads) (x .true-figure .written) (above-best b)) (g .core);
+          core =
+              core-changed q law w j o₄ on₄
+              (good-settled q law w (g .core) j (rank (d .«best_stamp»)) (x .stage-is) (x .reads) (x .true-figure .written) (above-best b))
+              (g .core);
           start-is = g .start-is;
           now-is = refl;
           count-is = g .count-is;
@@ -130,8 +146,14 @@ module _ {F : Type 0} (q : Rule) (R : ℕ) (law : Lawful q) (start : F) (w : Wor
                 all-to-all MessageKind.Back j (Party.Reader r) (best d) (λ m. Says q R v₄ (m .kind) m) (q .size)
                 (λ c l. record { settled = omega (arith, ap (λ y. y .stage) here); aims = sym (ap (λ y. y .aim) here); true-figure = true-later q R start w v₄ up₄ (x .true-figure); to-low = l });
           };
-          begun = put-each (λ i o. 1 ≤ o .stage → (1 ≤ (w .ops i) .stage) ⊎ ((o .begun ≡ length h) × (_≡_ {A = Reply F} Reply.Done (Reply.Started i)))) (w .ops) j o₄ (λ _. inl (omega (arith, x .stage-is))) (λ i _ l. inl l);
-          ended = put-each (λ i o. 3 ≤ o .stage → (3 ≤ (w .ops i) .stage) ⊎ ((o .ended ≡ length h) × Closes (delivery place taken goes) i (w .value (o .aim)))) (w .ops) j o₄ (λ l. absurd (omega arith)) (λ i _ l. inl l);
+          begun =
+              put-each
+              (λ i o. 1 ≤ o .stage → (1 ≤ (w .ops i) .stage) ⊎ ((o .begun ≡ length h) × (_≡_ {A = Reply F} Reply.Done (Reply.Started i))))
+              (w .ops) j o₄ (λ _. inl (omega (arith, x .stage-is))) (λ i _ l. inl l);
+          ended =
+              put-each
+              (λ i o. 3 ≤ o .stage → (3 ≤ (w .ops i) .stage) ⊎ ((o .ended ≡ length h) × Closes (delivery place taken goes) i (w .value (o .aim))))
+              (w .ops) j o₄ (λ l. absurd (omega arith)) (λ i _ l. inl l);
         });
       }
 
@@ -143,7 +165,8 @@ module _ {F : Type 0} (q : Rule) (R : ℕ) (law : Lawful q) (start : F) (w : Wor
         (λ _. settles b))
         (λ _. waits r d same-op (of-first q (ticked w) r (d .phase) d e (phase-later q R start w (ticked w) (later-ticked q law w) r (λ i b c. refl) Phase.First d x)))
 
-  have-at : (m : Message F) (r : ℕ) (d : Reader F) → d .operation ≡ (reader s r) .operation → InPhase q w r (d .phase) d → Report w m → K (on-have-at q s m r d)
+  have-at : (m : Message F) (r : ℕ) (d : Reader F) → d .operation ≡ (reader s r) .operation
+      → InPhase q w r (d .phase) d → Report w m → K (on-have-at q s m r d)
   have-at m r d same-op x p =
       cond-both (counts in-first d m) _ _ K
       (λ e.
@@ -157,22 +180,27 @@ module _ {F : Type 0} (q : Rule) (R : ℕ) (law : Lawful q) (start : F) (w : Wor
 
   pub kept-have : (m : Message F) → Report w m → K (on-have q s m)
   unfolding on-have
-  kept-have m p = have-at m (index (m .receiver)) (reader s (index (m .receiver))) refl (g .readers (index (m .receiver))) p
+  kept-have m p =
+      have-at m (index (m .receiver)) (reader s (index (m .receiver))) refl (g .readers (index (m .receiver))) p
 
-  module _ (r : ℕ) (d : Reader F) (x : Second w r d) (e : in-second (d .phase) ≡ true) (same-op : d .operation ≡ (reader s r) .operation) where
+  module _ (r : ℕ) (d : Reader F) (x : Second w r d) (e : in-second (d .phase) ≡ true)
+      (same-op : d .operation ≡ (reader s r) .operation) where
     second-ends : q .round (bits (d .replies)) ≡ true → K (read-finishing s r d 4)
     second-ends b =
         let st = x .stage-is in
-        let hold = held-from q law (bits (d .replies)) (w .at) (rank (d .«best_stamp»)) (law .holds _ b) (x .placed) in
+        let hold = held-from q law (bits (d .replies)) (w .at) (rank (d .«best_stamp»)) (law .holds _ b) (x .placed)
+        in
         let new = good-ended q law w (g .core) (d .operation) (rank (d .«best_stamp»)) st (x .aims) hold in
-        read-ends q R law start w s h g (d .operation) r (x .owner-is) (reader-freed d) refl (rank (d .«best_stamp»)) (omega arith) (omega arith) (λ _. x .aims) new (best d) refl (x .true-figure .is) refl place taken 4
+        read-ends q R law start w s h g (d .operation) r (x .owner-is) (reader-freed d) refl (rank (d .«best_stamp»))
+        (omega arith) (omega arith) (λ _. x .aims) new (best d) refl (x .true-figure .is) refl place taken 4
 
     after-ack : K (after-last q s r d 4)
     after-ack =
         cond-both (q .round (bits (d .replies))) _ _ K second-ends
         (λ _. waits r d same-op (of-second q (ticked w) r (d .phase) d e (phase-later q R start w (ticked w) (later-ticked q law w) r (λ i b c. refl) Phase.Second d x)))
 
-  confirms : (r : ℕ) (d : Reader F) (c : ℕ) → Second w r d → (w .ops (d .operation)) .aim ≤ w .at c → Second w r (confirmed d c)
+  confirms : (r : ℕ) (d : Reader F) (c : ℕ) → Second w r d → (w .ops (d .operation)) .aim ≤ w .at c
+      → Second w r (confirmed d c)
   confirms r d c x reached = record {
     stage-is = x .stage-is;
     owner-is = x .owner-is;
@@ -182,15 +210,19 @@ module _ {F : Type 0} (q : Rule) (R : ℕ) (law : Lawful q) (start : F) (w : Wor
     placed = λ k m. elim (joined-cases (d .replies) c k m) [ inl i ↦ rw i (omega (arith, x .aims)) | inr o ↦ x .placed k o ];
   }
 
-  ack-at : (m : Message F) (r : ℕ) (d : Reader F) → d .operation ≡ (reader s r) .operation → InPhase q w r (d .phase) d → Ack w m → K (on-back-ack-at q s m r d)
+  ack-at : (m : Message F) (r : ℕ) (d : Reader F) → d .operation ≡ (reader s r) .operation
+      → InPhase q w r (d .phase) d → Ack w m → K (on-back-ack-at q s m r d)
   ack-at m r d same-op x p =
       cond-both (counts in-second d m) _ _ K
       (λ e.
       let c = counts-parts in-second d m e in
       let i = c .operation-is in
-      after-ack r (confirmed d (index (m .sender))) (confirms r d (index (m .sender)) (to-second q w r (d .phase) d (c .phase-is) x) (rw i (p .reached))) (c .phase-is) same-op)
+      after-ack r (confirmed d (index (m .sender)))
+      (confirms r d (index (m .sender)) (to-second q w r (d .phase) d (c .phase-is) x) (rw i (p .reached)))
+      (c .phase-is) same-op)
       (λ _. kept-quiet q R law start w s h g place taken)
 
   pub kept-back-ack : (m : Message F) → Ack w m → K (on-back-ack q s m)
   unfolding on-back-ack
-  kept-back-ack m p = ack-at m (index (m .receiver)) (reader s (index (m .receiver))) refl (g .readers (index (m .receiver))) p
+  kept-back-ack m p =
+      ack-at m (index (m .receiver)) (reader s (index (m .receiver))) refl (g .readers (index (m .receiver))) p

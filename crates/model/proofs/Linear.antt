@@ -39,7 +39,8 @@ abbrev late : Bool → ℕ
 late true = 1
 late false = 0
 
-module _ {F : Type 0} (q : Rule) (R : ℕ) (law : Lawful q) (start : F) (w : World F) (s : State F) (h : History F) (g : Good q R start w s h) where
+module _ {F : Type 0} (q : Rule) (R : ℕ) (law : Lawful q) (start : F) (w : World F) (s : State F) (h : History F)
+    (g : Good q R start w s h) where
   abbrev reads-of : ℕ → Bool
   reads-of j = (w .ops j) .reading
 
@@ -59,7 +60,9 @@ module _ {F : Type 0} (q : Rule) (R : ℕ) (law : Lawful q) (start : F) (w : Wor
   answers t i = leb 3 ((op i) .stage) && ((op i) .reading && eqb ((op i) .aim) t)
 
   abbrev keep : ℕ → Bool
-  keep j = leb 3 ((op j) .stage) || (leb 1 ((op j) .stage) && (not ((op j) .reading) && some (answers ((op j) .aim)) (w .count)))
+  keep j =
+      leb 3 ((op j) .stage) ||
+      (leb 1 ((op j) .stage) && (not ((op j) .reading) && some (answers ((op j) .aim)) (w .count)))
 
   row : List ℕ
   row = arrange point key keep (w .count)
@@ -78,9 +81,12 @@ module _ {F : Type 0} (q : Rule) (R : ℕ) (law : Lawful q) (start : F) (w : Wor
 
   kept : (j : ℕ) → keep j ≡ true → Kept j
   kept j e = elim (or-cases (leb 3 ((op j) .stage)) (leb 1 ((op j) .stage) && (not ((op j) .reading) && some (answers ((op j) .aim)) (w .count))) e) [
-    | inl a ↦ let l = leb-true 3 ((op j) .stage) a in record { settled = omega arith; held-aim = g .core .op j .kept l; why = inl l }
+    | inl a ↦ let l =
+        leb-true 3 ((op j) .stage) a in record
+        { settled = omega arith; held-aim = g .core .op j .kept l; why = inl l }
     | inr a ↦
-        let b = and-parts (leb 1 ((op j) .stage)) (not ((op j) .reading) && some (answers ((op j) .aim)) (w .count)) a in
+        let b = and-parts (leb 1 ((op j) .stage)) (not ((op j) .reading) && some (answers ((op j) .aim)) (w .count)) a
+        in
         let c = and-parts (not ((op j) .reading)) (some (answers ((op j) .aim)) (w .count)) (b .1) in
         let r = not-true ((op j) .reading) (c .0) in
         let i = some-true (answers ((op j) .aim)) (w .count) (c .1) in
@@ -95,7 +101,8 @@ module _ {F : Type 0} (q : Rule) (R : ℕ) (law : Lawful q) (start : F) (w : Wor
   keep-over : (j : ℕ) → 3 ≤ (op j) .stage → keep j ≡ true
   keep-over j l = or-left (leb 3 ((op j) .stage)) _ (le-leb 3 ((op j) .stage) l)
 
-  keep-seen : (j i : ℕ) → 1 ≤ (op j) .stage → (op j) .reading ≡ false → 3 ≤ (op i) .stage → (op i) .reading ≡ true → (op i) .aim ≡ (op j) .aim → keep j ≡ true
+  keep-seen : (j i : ℕ) → 1 ≤ (op j) .stage → (op j) .reading ≡ false → 3 ≤ (op i) .stage → (op i) .reading ≡ true
+      → (op i) .aim ≡ (op j) .aim → keep j ≡ true
   keep-seen j i b r l x a =
       or-right (leb 3 ((op j) .stage)) _
       (and-from (leb 1 ((op j) .stage)) _ (le-leb 1 ((op j) .stage) b)
@@ -115,7 +122,8 @@ module _ {F : Type 0} (q : Rule) (R : ℕ) (law : Lawful q) (start : F) (w : Wor
   write-point : (j : ℕ) → Kept j → (op j) .reading ≡ false → (op j) .begun ≤ w .since ((op j) .aim)
   write-point j k r =
       let b : 1 ≤ (op j) .stage = omega (arith, k .settled) in
-      g .core .op j .fresh-since b ((op j) .aim) (g .core .op j .write-aim (k .settled) r ((op j) .aim) (omega arith)) (k .held-aim)
+      g .core .op j .fresh-since b ((op j) .aim) (g .core .op j .write-aim (k .settled) r ((op j) .aim) (omega arith))
+      (k .held-aim)
 
   late-true : (j : ℕ) → (op j) .reading ≡ true → late ((op j) .reading) ≡ 1
   late-true j e = ap late e
@@ -125,7 +133,9 @@ module _ {F : Type 0} (q : Rule) (R : ℕ) (law : Lawful q) (start : F) (w : Wor
 
   module _ (x y : ℕ) (kx : Kept x) (ky : Kept y) (n : x ≡ y → ⊥) (le : Le point key x y) where
     aims-differ : (op x) .reading ≡ false → (op y) .reading ≡ false → (op x) .aim ≡ (op y) .aim → ⊥
-    aims-differ a b e = n (sym (g .core .op x .write-own (kx .settled) a) ∙ ap (w .wrote) e ∙ g .core .op y .write-own (ky .settled) b)
+    aims-differ a b e =
+        n
+        (sym (g .core .op x .write-own (kx .settled) a) ∙ ap (w .wrote) e ∙ g .core .op y .write-own (ky .settled) b)
 
     write-write : (op x) .reading ≡ false → (op y) .reading ≡ false → (op x) .aim < (op y) .aim
     write-write a b = elim (cases-lt ((op x) .aim) ((op y) .aim)) [
@@ -139,7 +149,8 @@ module _ {F : Type 0} (q : Rule) (R : ℕ) (law : Lawful q) (start : F) (w : Wor
       | inl l ↦
           let u = g .core .op y .read-aim (ky .settled) b ((op x) .aim) l in
           let f = g .core .op y .fresh-since (omega (arith, ky .settled)) ((op x) .aim) u (kx .held-aim) in
-          omega (arith, le .points, le .ranks, late-false x a, late-true y b, f, g .core .paced ((op y) .aim) ((op x) .aim) (omega arith) (kx .held-aim))
+          omega
+          (arith, le .points, le .ranks, late-false x a, late-true y b, f, g .core .paced ((op y) .aim) ((op x) .aim) (omega arith) (kx .held-aim))
     ]
 
     read-write : (op x) .reading ≡ true → (op y) .reading ≡ false → (op x) .aim < (op y) .aim
@@ -160,7 +171,9 @@ module _ {F : Type 0} (q : Rule) (R : ℕ) (law : Lawful q) (start : F) (w : Wor
   pairs-le = le-arrange point key keep (w .count)
 
   pairs : Pairwise (Fits reads-of aim-of) row
-  pairs = pairwise-weaker (Le point key) (Fits reads-of aim-of) row once (λ x y i j n l. fits x y (in-row x i) (in-row y j) n l) pairs-le
+  pairs =
+      pairwise-weaker (Le point key) (Fits reads-of aim-of) row once
+      (λ x y i j n l. fits x y (in-row x i) (in-row y j) n l) pairs-le
 
   -- A read showed a write of the row, or the start.
   source : (n : ℕ) → In n row → (op n) .reading ≡ true → (0 ≡ (op n) .aim) ⊎ Source reads-of aim-of n row
@@ -217,7 +230,8 @@ module _ {F : Type 0} (q : Rule) (R : ℕ) (law : Lawful q) (start : F) (w : Wor
       let i = d .1 .2 .0 in
       let sh = d .1 .2 .1 in
       let y = ends-at q R law start w s h g (sh .1 .0) i x (sh .1 .1) in
-      to-row n (v .0) (keep-seen n i (v .0) (v .1) (y .stage-is) (read-is q R law start w s h g i x sh) (y .aim-is ∙ v .2))
+      to-row n (v .0)
+      (keep-seen n i (v .0) (v .1) (y .stage-is) (read-is q R law start w s h g i x sh) (y .aim-is ∙ v .2))
 
   in-time : (i j : ℕ) → In i row → In j row → Precedes h i j → Before i j row
   in-time i j p r v =
@@ -228,7 +242,8 @@ module _ {F : Type 0} (q : Rule) (R : ℕ) (law : Lawful q) (start : F) (w : Wor
       let o = g .core .op i .kept-since (x .stage-is) in
       elim (either-way row i j (λ d. omega (arith, x .ended-is, y .begun-is, ap (λ z. (op z) .begun) d)) p r) [
         | inl c ↦ c
-        | inr c ↦ let n = at-before (Le point key) row j i pairs-le c in absurd (omega (arith, n .points, x .ended-is, y .begun-is))
+        | inr c ↦ let n =
+            at-before (Le point key) row j i pairs-le c in absurd (omega (arith, n .points, x .ended-is, y .begun-is))
       ]
 
   pub in-a-row : Row start h

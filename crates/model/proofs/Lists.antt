@@ -17,22 +17,26 @@ use Rattle.model.specs.Claims.{At, In}
 
 module _ {A : Type 0} where
   -- Place i now holds x.
-  pub each-set : (P : ℕ → A → Type 0) (l : List A) (i : ℕ) (x d : A) → P i x → (length l ≤ i → P i d) → ((k : ℕ) → (k ≡ i → ⊥) → P k (getD l k d)) → (k : ℕ) → P k (getD (set l i x) k d)
+  pub each-set : (P : ℕ → A → Type 0) (l : List A) (i : ℕ) (x d : A) → P i x → (length l ≤ i → P i d)
+      → ((k : ℕ) → (k ≡ i → ⊥) → P k (getD l k d)) → (k : ℕ) → P k (getD (set l i x) k d)
   each-set P [] zero x d h u o zero = u (omega arith)
   each-set P [] (suc i) x d h u o zero = o zero (λ e. omega arith)
   each-set P [] zero x d h u o (suc k) = o (suc k) (λ e. omega arith)
-  each-set P [] (suc i) x d h u o (suc k) = each-set (λ n. P (suc n)) [] i x d h (λ _. u (omega arith)) (λ n e. o (suc n) (λ s. e (omega arith))) k
+  each-set P [] (suc i) x d h u o (suc k) =
+      each-set (λ n. P (suc n)) [] i x d h (λ _. u (omega arith)) (λ n e. o (suc n) (λ s. e (omega arith))) k
   each-set P (y ∷ l) zero x d h u o zero = h
   each-set P (y ∷ l) zero x d h u o (suc k) = o (suc k) (λ e. omega arith)
   each-set P (y ∷ l) (suc i) x d h u o zero = o zero (λ e. omega arith)
-  each-set P (y ∷ l) (suc i) x d h u o (suc k) = each-set (λ n. P (suc n)) l i x d h (λ b. u (omega arith)) (λ n e. o (suc n) (λ s. e (omega arith))) k
+  each-set P (y ∷ l) (suc i) x d h u o (suc k) =
+      each-set (λ n. P (suc n)) l i x d h (λ b. u (omega arith)) (λ n e. o (suc n) (λ s. e (omega arith))) k
 
   pub get-out : (l : List A) (i : ℕ) (d : A) → length l ≤ i → getD l i d ≡ d
   get-out [] i d h = refl
   get-out (x ∷ l) zero d h = absurd (omega arith)
   get-out (x ∷ l) (suc i) d h = get-out l i d (omega arith)
 
-  pub each-set-all : (P : ℕ → A → Type 0) (l : List A) (i : ℕ) (x d : A) → P i x → ((k : ℕ) → P k (getD l k d)) → (k : ℕ) → P k (getD (set l i x) k d)
+  pub each-set-all : (P : ℕ → A → Type 0) (l : List A) (i : ℕ) (x d : A) → P i x → ((k : ℕ) → P k (getD l k d))
+      → (k : ℕ) → P k (getD (set l i x) k d)
   each-set-all P l i x d h o = each-set P l i x d h (λ u. subst (P i) (get-out l i d u) (o i)) (λ k _. o k)
 
   -- A place of the table that is written holds what was written.
@@ -41,7 +45,8 @@ module _ {A : Type 0} where
   get-set (y ∷ l) zero x d h = refl
   get-set (y ∷ l) (suc i) x d h = get-set l i x d (omega arith)
 
-  pub each-replicate : (P : ℕ → A → Type 0) (n : ℕ) (x d : A) → ((k : ℕ) → P k x) → ((k : ℕ) → P k d) → (k : ℕ) → P k (getD (replicate n x) k d)
+  pub each-replicate : (P : ℕ → A → Type 0) (n : ℕ) (x d : A) → ((k : ℕ) → P k x) → ((k : ℕ) → P k d) → (k : ℕ)
+      → P k (getD (replicate n x) k d)
   each-replicate P zero x d h u k = u k
   each-replicate P (suc n) x d h u zero = h zero
   each-replicate P (suc n) x d h u (suc k) = each-replicate (λ i. P (suc i)) n x d (λ i. h (suc i)) (λ i. u (suc i)) k
@@ -109,12 +114,21 @@ module _ {A : Type 0} where
 
 module _ {F : Type 0} (kind : MessageKind) (n : ℕ) (from : Party) (x : Held F) where
   abbrev pub one : ℕ → Message F
-  one c = record { kind = kind; operation = n; sender = from; receiver = Party.Replica c; stamp = x .stamp; figure = x .figure }
+  one c = record {
+    kind = kind;
+    operation = n;
+    sender = from;
+    receiver = Party.Replica c;
+    stamp = x .stamp;
+    figure = x .figure;
+  }
 
-  pub all-to-all : (P : Message F → Type 0) (size : ℕ) → ((c : ℕ) → c < size → P (one c)) → All P (to-all size kind n from x)
+  pub all-to-all : (P : Message F → Type 0) (size : ℕ) → ((c : ℕ) → c < size → P (one c))
+      → All P (to-all size kind n from x)
   unfolding to-all
   all-to-all P zero h = tt
-  all-to-all P (suc size) h = all-push P (to-all size kind n from x) _ (all-to-all P size (λ c l. h c (omega arith))) (h size (omega arith))
+  all-to-all P (suc size) h =
+      all-push P (to-all size kind n from x) _ (all-to-all P size (λ c l. h c (omega arith))) (h size (omega arith))
 
   pub in-to-all : (size c : ℕ) → c < size → In (one c) (to-all size kind n from x)
   unfolding to-all

@@ -13,15 +13,41 @@ use Rattle.model.proofs.World.{put-at, put-same, put-other, put-each, held, he
 
 -- Another call, and no more.
 abbrev pub ticked : {F : Type 0} → World F → World F
-ticked w = record { now = suc (w .now); last = w .last; count = w .count; at = w .at; ops = w .ops; value = w .value; wrote = w .wrote; since = w .since }
+ticked w = record {
+  now = suc (w .now);
+  last = w .last;
+  count = w .count;
+  at = w .at;
+  ops = w .ops;
+  value = w .value;
+  wrote = w .wrote;
+  since = w .since;
+}
 
 -- Another call, with operation k now o.
 abbrev pub changed : {F : Type 0} → World F → ℕ → Op → World F
-changed w k o = record { now = suc (w .now); last = w .last; count = w .count; at = w .at; ops = put-at (w .ops) k o; value = w .value; wrote = w .wrote; since = w .since }
+changed w k o = record {
+  now = suc (w .now);
+  last = w .last;
+  count = w .count;
+  at = w .at;
+  ops = put-at (w .ops) k o;
+  value = w .value;
+  wrote = w .wrote;
+  since = w .since;
+}
 
 -- A read's stamp is settled.
 abbrev pub settled : Op → ℕ → Op
-settled o s = record { stage = 2; begun = o .begun; ended = o .ended; aim = s; owner = o .owner; reading = o .reading; snap = o .snap }
+settled o s = record {
+  stage = 2;
+  begun = o .begun;
+  ended = o .ended;
+  aim = s;
+  owner = o .owner;
+  reading = o .reading;
+  snap = o .snap;
+}
 
 pub onward-settled : (o : Op) (s : ℕ) → o .stage ≡ 1 → Onward o (settled o s)
 onward-settled o s e = record {
@@ -36,7 +62,15 @@ onward-settled o s e = record {
 
 -- An operation has finished.
 abbrev pub ended-op : Op → ℕ → ℕ → Op
-ended-op o s m = record { stage = 3; begun = o .begun; ended = m; aim = s; owner = o .owner; reading = o .reading; snap = o .snap }
+ended-op o s m = record {
+  stage = 3;
+  begun = o .begun;
+  ended = m;
+  aim = s;
+  owner = o .owner;
+  reading = o .reading;
+  snap = o .snap;
+}
 
 pub onward-ended : (o : Op) (s m : ℕ) → (o .stage ≤ 2) → (2 ≤ o .stage → s ≡ o .aim) → Onward o (ended-op o s m)
 onward-ended o s m e a = record {
@@ -64,10 +98,26 @@ raised q w bt = record {
 
 -- An operation begins.
 abbrev pub read-op : {F : Type 0} → World F → Party → Op
-read-op w owner = record { stage = 1; begun = w .now; ended = 0; aim = 0; owner = owner; reading = true; snap = w .at }
+read-op w owner = record {
+  stage = 1;
+  begun = w .now;
+  ended = 0;
+  aim = 0;
+  owner = owner;
+  reading = true;
+  snap = w .at;
+}
 
 abbrev pub write-op : {F : Type 0} → World F → Party → ℕ → Op
-write-op w owner a = record { stage = 2; begun = w .now; ended = 0; aim = a; owner = owner; reading = false; snap = w .at }
+write-op w owner a = record {
+  stage = 2;
+  begun = w .now;
+  ended = 0;
+  aim = a;
+  owner = owner;
+  reading = false;
+  snap = w .at;
+}
 
 abbrev pub read-begun : {F : Type 0} → World F → Party → World F
 read-begun w owner = record {
@@ -95,7 +145,8 @@ write-begun w owner a x = record {
 }
 
 module _ (q : Rule) {F : Type 0} (law : Lawful q) where
-  pub source-later : (w v : World F) → Later q w v → (t : ℕ) → Source q w t (w .ops (w .wrote t)) → Source q v t (v .ops (v .wrote t))
+  pub source-later : (w v : World F) → Later q w v → (t : ℕ) → Source q w t (w .ops (w .wrote t))
+      → Source q v t (v .ops (v .wrote t))
   source-later w v up t s =
       rw (up .same-wrote t (s .low))
       (let u = up .ops-up (w .wrote t) in
@@ -141,18 +192,22 @@ module _ (q : Rule) {F : Type 0} (law : Lawful q) where
     since-new = λ t n h. absurd (both-ways (held q (w .at) t) n h);
   }
 
-  pub core-changed : (w : World F) (k : ℕ) (o : Op) → Onward (w .ops k) o → OpGood q (changed w k o) k o → Core q w → Core q (changed w k o)
+  pub core-changed : (w : World F) (k : ℕ) (o : Op) → Onward (w .ops k) o → OpGood q (changed w k o) k o → Core q w
+      → Core q (changed w k o)
   core-changed w k o u n g = record {
     low = g .low;
     paced = g .paced;
     past = λ t h. omega (arith, g .past t h);
-    op = put-each (λ j p. OpGood q (changed w k o) j p) (w .ops) k o n (λ j _. op-later q law w (changed w k o) (later-changed w k o u) j (w .ops j) (g .op j));
+    op =
+        put-each (λ j p. OpGood q (changed w k o) j p) (w .ops) k o n
+        (λ j _. op-later q law w (changed w k o) (later-changed w k o u) j (w .ops j) (g .op j));
     source = λ t b. source-later w (changed w k o) (later-changed w k o u) t (g .source t b);
   }
 
   module _ (w : World F) (g : Core q w) (k s : ℕ) where
     pub good-settled : (w .ops k) .stage ≡ 1 → (w .ops k) .reading ≡ true → Written w s
-        → ((t : ℕ) → s < t → held q ((w .ops k) .snap) t ≡ false) → OpGood q (changed w k (settled (w .ops k) s)) k (settled (w .ops k) s)
+        → ((t : ℕ) → s < t → held q ((w .ops k) .snap) t ≡ false)
+        → OpGood q (changed w k (settled (w .ops k) s)) k (settled (w .ops k) s)
     good-settled e r l n =
         let o = g .op k in
         let b : 1 ≤ (w .ops k) .stage = omega arith in
@@ -249,7 +304,8 @@ module _ (q : Rule) {F : Type 0} (law : Lawful q) where
     }
       where
         past : (t : ℕ) → cond (held q (w .at) t) (w .since t) (w .now) ≤ w .now
-        past t = cond-both (held q (w .at) t) (w .since t) (w .now) (λ x. x ≤ w .now) (λ h. g .past t h) (λ _. omega arith)
+        past t =
+            cond-both (held q (w .at) t) (w .since t) (w .now) (λ x. x ≤ w .now) (λ h. g .past t h) (λ _. omega arith)
 
   module _ (w : World F) (g : Core q w) where
     unborn : (w .ops (suc (w .count))) .stage ≡ 0
@@ -275,7 +331,9 @@ module _ (q : Rule) {F : Type 0} (law : Lawful q) where
       last-up = omega arith;
       count-up = omega arith;
       at-up = λ c. omega arith;
-      ops-up = put-each (λ j p. Onward (w .ops j) p) (w .ops) (suc (w .count)) (read-op w owner) (onward-born (read-op w owner)) (λ j _. onward-same (w .ops j));
+      ops-up =
+          put-each (λ j p. Onward (w .ops j) p) (w .ops) (suc (w .count)) (read-op w owner)
+          (onward-born (read-op w owner)) (λ j _. onward-same (w .ops j));
       same-value = λ t _. refl;
       same-wrote = λ t _. refl;
       since-old = λ t _. refl;
@@ -324,7 +382,9 @@ module _ (q : Rule) {F : Type 0} (law : Lawful q) where
       last-up = omega arith;
       count-up = omega arith;
       at-up = λ c. omega arith;
-      ops-up = put-each (λ j p. Onward (w .ops j) p) (w .ops) (suc (w .count)) o (onward-born w g o) (λ j _. onward-same (w .ops j));
+      ops-up =
+          put-each (λ j p. Onward (w .ops j) p) (w .ops) (suc (w .count)) o (onward-born w g o)
+          (λ j _. onward-same (w .ops j));
       same-value = λ t l. put-other (w .value) a x t (λ e. omega arith);
       same-wrote = λ t l. put-other (w .wrote) a (suc (w .count)) t (λ e. omega arith);
       since-old = λ t _. refl;
@@ -336,14 +396,17 @@ module _ (q : Rule) {F : Type 0} (law : Lawful q) where
 
     -- An older stamp was written by an older operation.
     old-source : (t : ℕ) → (t ≡ a → ⊥) → 0 < v .wrote t → Source q v t (v .ops (v .wrote t))
-    old-source t n p = source-later w v later-write t (g .source t (omega (arith, put-other (w .wrote) a (suc (w .count)) t n)))
+    old-source t n p =
+        source-later w v later-write t (g .source t (omega (arith, put-other (w .wrote) a (suc (w .count)) t n)))
 
     pub core-write : Core q v
     core-write = record {
       low = λ c. omega (arith, g .low c);
       paced = g .paced;
       past = λ t h. omega (arith, g .past t h);
-      op = put-each (λ j p. OpGood q v j p) (w .ops) (suc (w .count)) o new (λ j _. op-later q law w v later-write j (w .ops j) (g .op j));
+      op =
+          put-each (λ j p. OpGood q v j p) (w .ops) (suc (w .count)) o new
+          (λ j _. op-later q law w v later-write j (w .ops j) (g .op j));
       source = λ t p. elim (cases-eq t a) [
         | inl e ↦ rw (e, wrote-new, put-same (w .ops) (suc (w .count)) o) (record { low = omega arith; settled = omega arith; writing = refl; aims = refl })
         | inr n ↦ old-source t n p

@@ -43,12 +43,15 @@ unanswered-most n k = grind (arith, tells)
 pub unreplied-most : (n width r c : ℕ) (l : List RelayMark) → unreplied n width r c l ≤ c
 unfolding unreplied
 unreplied-most n width r zero l = omega arith
-unreplied-most n width r (suc c) l = omega (arith, unreplied-most n width r c l, unanswered-most n (getD l (c * width + r) new-mark))
+unreplied-most n width r (suc c) l =
+    omega (arith, unreplied-most n width r c l, unanswered-most n (getD l (c * width + r) new-mark))
 
-pub unreplied-below : (n width r c : ℕ) (l : List RelayMark) (i : ℕ) (x : RelayMark) → unanswered n x ≤ unanswered n (getD l i new-mark) → unreplied n width r c (set l i x) ≤ unreplied n width r c l
+pub unreplied-below : (n width r c : ℕ) (l : List RelayMark) (i : ℕ) (x : RelayMark)
+    → unanswered n x ≤ unanswered n (getD l i new-mark) → unreplied n width r c (set l i x) ≤ unreplied n width r c l
 unfolding unreplied
 unreplied-below n width r zero l i x h = omega arith
-unreplied-below n width r (suc c) l i x h = omega (arith, unreplied-below n width r c l i x h, set-below (unanswered n) l i x new-mark h (c * width + r))
+unreplied-below n width r (suc c) l i x h =
+    omega (arith, unreplied-below n width r c l i x h, set-below (unanswered n) l i x new-mark h (c * width + r))
 
 -- replica b, which could reply, no longer can
 pub unreplied-less : (n width r c : ℕ) (l : List RelayMark) (b : ℕ) (x : RelayMark) → b < c → b * width + r < length l
@@ -67,7 +70,8 @@ unreplied-less n width r (suc c) l b x h i u v = elim (cases-eq c b) [
 
 -- Marks
 
-pub marked-below : (n m c : ℕ) (k : RelayMark) → ltb m (k .operation) ≡ false → unanswered n (marked k m c) ≤ unanswered n k
+pub marked-below : (n m c : ℕ) (k : RelayMark) → ltb m (k .operation) ≡ false
+    → unanswered n (marked k m c) ≤ unanswered n k
 unfolding marked
 marked-below n m c k h = grind (arith, tells)
 
@@ -78,7 +82,8 @@ pub marked-operation : (m c : ℕ) (k : RelayMark) → ltb m (k .operation) ≡ 
 unfolding marked
 marked-operation m c k h = grind (arith, tells)
 
-pub could-reply : (m c : ℕ) (k : RelayMark) → ltb m (k .operation) ≡ false → (marked k m c) .replied ≡ false → unanswered m k ≡ 1
+pub could-reply : (m c : ℕ) (k : RelayMark) → ltb m (k .operation) ≡ false → (marked k m c) .replied ≡ false
+    → unanswered m k ≡ 1
 unfolding marked
 could-reply m c k h u = grind (arith, tells)
 

@@ -47,20 +47,28 @@ abbrev pub Clear : Tests → Type 0
 Clear [] = Unit {0}
 Clear (t ∷ ts) = (t .0 ≡ false) × Clear ts
 
-pub settles : {F : Type 0} (P : Outcome F → Type 0) (s : State F) (ts : Tests) (o : Outcome F) → ((e : Refusal) → P (declined s e)) → (Clear ts → P o) → P (settled s (first-of ts) o)
+pub settles : {F : Type 0} (P : Outcome F → Type 0) (s : State F) (ts : Tests) (o : Outcome F)
+    → ((e : Refusal) → P (declined s e)) → (Clear ts → P o) → P (settled s (first-of ts) o)
 settles P s [] o d k = cond-both (overfull s o) _ _ P (λ _. d Refusal.NoRoom) (λ _. k tt)
-settles P s (t ∷ ts) o d k = cond-both (t .0) (Some (t .1)) (first-of ts) (λ r. P (settled s r o)) (λ _. d (t .1)) (λ e. settles P s ts o d (λ c. k (e, c)))
+settles P s (t ∷ ts) o d k =
+    cond-both (t .0) (Some (t .1)) (first-of ts) (λ r. P (settled s r o)) (λ _. d (t .1))
+    (λ e. settles P s ts o d (λ c. k (e, c)))
 
 -- A call is declined, or is done where the tables are sound and its tests are clear.
-pub stepped : {F : Type 0} (P : Outcome F → Type 0) (rule : Rule) (s : State F) (c : Call F) → ((e : Refusal) → P (declined s e)) → (sound rule s ≡ true → Clear (tests rule s c) → P (done rule s c)) → P (step rule s c)
+pub stepped : {F : Type 0} (P : Outcome F → Type 0) (rule : Rule) (s : State F) (c : Call F)
+    → ((e : Refusal) → P (declined s e)) → (sound rule s ≡ true → Clear (tests rule s c) → P (done rule s c))
+    → P (step rule s c)
 unfolding step refusal
-stepped P rule s c d k = settles P s ((not (sound rule s), Refusal.Unsound) ∷ tests rule s c) (done rule s c) d (λ t. k (not-false _ (t .0)) (t .1))
+stepped P rule s c d k =
+    settles P s ((not (sound rule s), Refusal.Unsound) ∷ tests rule s c) (done rule s c) d
+    (λ t. k (not-false _ (t .0)) (t .1))
 
 pub not-busy : (n : ℕ) → busy n ≡ false → n ≡ 0
 not-busy n e = eqb-true n 0 (not-false _ e)
 
 module _ {F : Type 0} (q : Rule) (R : ℕ) (law : Lawful q) (start : F) where
-  module _ (w : World F) (s : State F) (h : History F) (g : Good q R start w s h) (place : ℕ) (taken : List (Message F)) where
+  module _ (w : World F) (s : State F) (h : History F) (g : Good q R start w s h) (place : ℕ)
+      (taken : List (Message F)) where
     acts : (k : MessageKind) (m : Message F) → Says q R w k m → Kept q R start h (delivery place taken) (on q k s m)
     unfolding on
     acts MessageKind.Put m x = kept-put q R law start w s h g place taken m x
@@ -75,7 +83,9 @@ module _ {F : Type 0} (q : Rule) (R : ℕ) (law : Lawful q) (start : F) where
 
     arrives : (m : Message F) → Says q R w (m .kind) m → Kept q R start h (delivery place taken) (received q s m)
     unfolding received
-    arrives m x = cond-both (halted s (m .receiver)) _ _ (Kept q R start h (delivery place taken)) (λ _. kept-quiet q R law start w s h g place taken) (λ _. acts (m .kind) m x)
+    arrives m x =
+        cond-both (halted s (m .receiver)) _ _ (Kept q R start h (delivery place taken))
+        (λ _. kept-quiet q R law start w s h g place taken) (λ _. acts (m .kind) m x)
 
   module _ (w : World F) (s : State F) (h : History F) (g : Good q R start w s h) where
     pub taken-out : (p : ℕ) → Good q R start w (without-message s p) h
@@ -104,7 +114,8 @@ module _ {F : Type 0} (q : Rule) (R : ℕ) (law : Lawful q) (start : F) where
     pub says-at : (p : ℕ) → p < length (s .messages) → Says q R w ((message s p) .kind) (message s p)
     says-at p l = all-getD (λ m. Says q R w (m .kind) m) (s .messages) p _ l (g .messages)
 
-    keeps-deliver : (p : ℕ) → p < length (s .messages) → Keeps q R start h (Call.Deliver p) (outcome (message s p ∷ []) (deliver q s p))
+    keeps-deliver : (p : ℕ) → p < length (s .messages)
+        → Keeps q R start h (Call.Deliver p) (outcome (message s p ∷ []) (deliver q s p))
     unfolding deliver
     keeps-deliver p l =
         let k = arrives w (without-message s p) h (taken-out p) p (message s p ∷ []) (message s p) (says-at p l) in
@@ -114,7 +125,8 @@ module _ {F : Type 0} (q : Rule) (R : ℕ) (law : Lawful q) (start : F) where
     unfolding done tests
     keeps-done (Call.Write f) t = let k = kept-write q R law start w s h g f (not-busy _ (t .1 .0)) in record { world = k .world; good = posts q R start (k .world) _ h _ (k .good) }
     keeps-done (Call.Read r kind) t =
-        let k = kept-read q R law start w s h g r kind (omega (arith, leb-false _ _ (t .0), g .readers-are)) (not-busy _ (t .1 .1 .0)) in
+        let k = kept-read q R law start w s h g r kind (omega (arith, leb-false _ _ (t .0), g .readers-are))
+        (not-busy _ (t .1 .1 .0)) in
         record { world = k .world; good = posts q R start (k .world) _ h _ (k .good) }
     keeps-done (Call.Deliver p) t = keeps-deliver p (leb-false _ _ (t .0))
     keeps-done (Call.Drop p) t = keeps-dropped q R law start w s h g p
@@ -122,7 +134,8 @@ module _ {F : Type 0} (q : Rule) (R : ℕ) (law : Lawful q) (start : F) where
     keeps-done (Call.Halt p) t = keeps-halt q R law start w s h g p
 
     pub keeps-step : (c : Call F) → Keeps q R start h c (step q s c)
-    keeps-step c = stepped (Keeps q R start h c) q s c (λ e. keeps-declined q R law start w s h g c e) (λ _ t. keeps-done c t)
+    keeps-step c =
+        stepped (Keeps q R start h c) q s c (λ e. keeps-declined q R law start w s h g c e) (λ _ t. keeps-done c t)
 
   abbrev dawn : World F
   dawn = record {
@@ -166,12 +179,21 @@ module _ {F : Type 0} (q : Rule) (R : ℕ) (law : Lawful q) (start : F) where
     now-is = refl;
     count-is = refl;
     last-is = sym rank-start;
-    at-is = each-replicate (λ k (x : Replica F). _≡_ {A = ℕ} 0 (rank (x .stamp))) (q .size) _ _ (λ k. sym rank-start) (λ k. sym rank-start);
-    figures = each-replicate (λ k (x : Replica F). True dawn (x .stamp) (x .figure)) (q .size) _ _ (λ k. start-true dawn start refl (unused start) refl) (λ k. start-true dawn start refl (unused start) refl);
+    at-is =
+        each-replicate (λ k (x : Replica F). _≡_ {A = ℕ} 0 (rank (x .stamp))) (q .size) _ _ (λ k. sym rank-start)
+        (λ k. sym rank-start);
+    figures =
+        each-replicate (λ k (x : Replica F). True dawn (x .stamp) (x .figure)) (q .size) _ _
+        (λ k. start-true dawn start refl (unused start) refl) (λ k. start-true dawn start refl (unused start) refl);
     replicas-are = length-replicate (q .size) _;
     messages = tt;
     readers = each-replicate (λ k (x : Reader F). InPhase q dawn k (x .phase) x) R _ _ (λ k. tt) (λ k. tt);
-    writer = record { stage-is = λ a. absurd (omega arith); owner-is = λ a. absurd (omega arith); writes = λ a. absurd (omega arith); acked = λ a. absurd (omega arith) };
+    writer = record {
+      stage-is = λ a. absurd (omega arith);
+      owner-is = λ a. absurd (omega arith);
+      writes = λ a. absurd (omega arith);
+      acked = λ a. absurd (omega arith);
+    };
     readers-are = length-replicate R _;
     marks = each-replicate (λ i k. MarkGood dawn (i / R) k) (q .size * R) _ _
         (λ i. record { low = omega arith; born = λ c m. absurd (both-ways (bits 0 c) (none c) m); fresh = λ c m. omega arith })
@@ -190,5 +212,6 @@ module _ {F : Type 0} (q : Rule) (R : ℕ) (law : Lawful q) (start : F) where
   pub known-first : (a b : ℕ) → Known (fresh q start R a b) []
   known-first a b = record { world = dawn; good = at-first a b }
 
-  pub known-step : (s : State F) (h : History F) (c : Call F) → Known s h → Known ((step q s c) .next) (h ++ event c (step q s c) ∷ [])
+  pub known-step : (s : State F) (h : History F) (c : Call F) → Known s h
+      → Known ((step q s c) .next) (h ++ event c (step q s c) ∷ [])
   known-step s h c k = let n = keeps-step (k .world) s h (k .good) c in record { world = n .world; good = n .good }

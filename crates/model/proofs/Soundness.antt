@@ -26,7 +26,16 @@ abbrev three : Rule
 three = count-rule 3 1
 
 abbrev operation : OperationKind → Party → Operation ℕ
-operation kind owner = record { kind = kind; owner = owner; started = 1; finished = 0; exchanges = 0; stamp = 0; figure = 5; sent = 0 }
+operation kind owner = record {
+  kind = kind;
+  owner = owner;
+  started = 1;
+  finished = 0;
+  exchanges = 0;
+  stamp = 0;
+  figure = 5;
+  sent = 0;
+}
 
 -- a write, a quick read of reader 0, a relayed read of reader 1, and two lines whose owners cannot have them
 abbrev journal : List (Operation ℕ)
@@ -54,7 +63,15 @@ tables readers marks messages = record {
 }
 
 abbrev at-work : ℕ → Phase → ℕ → ℕ → Reader ℕ
-at-work n phase replies holders = record { halted = false; operation = n; phase = phase; replies = replies; «best_stamp» = 0; «best_figure» = 5; holders = holders }
+at-work n phase replies holders = record {
+  halted = false;
+  operation = n;
+  phase = phase;
+  replies = replies;
+  «best_stamp» = 0;
+  «best_figure» = 5;
+  holders = holders;
+}
 
 abbrev resting : Reader ℕ
 resting = at-work 0 Phase.Idle 7 7
@@ -72,7 +89,9 @@ abbrev mark-is : ℕ → Bool
 mark-is relayers = sound three (tables (resting ∷ resting ∷ []) (relayed 0 ∷ relayed relayers ∷ []) [])
 
 abbrev message-is : Message ℕ → Bool
-message-is m = sound three (tables (resting ∷ resting ∷ []) [] (message MessageKind.Put 1 Party.Writer (Party.Replica 0) ∷ m ∷ []))
+message-is m =
+    sound three
+    (tables (resting ∷ resting ∷ []) [] (message MessageKind.Put 1 Party.Writer (Party.Replica 0) ∷ m ∷ []))
 
 abbrev writer : Party
 writer = Party.Writer
@@ -193,7 +212,9 @@ abbrev unsound-tables : State ℕ
 unsound-tables = tables (at-work 0 Phase.First 0 0 ∷ resting ∷ []) [] []
 
 abbrev ahead-tables : State ℕ
-ahead-tables = tables (resting ∷ resting ∷ []) [] (record { kind = MessageKind.Put; operation = 1; sender = writer; receiver = c0; stamp = 1; figure = 6 } ∷ [])
+ahead-tables =
+    tables (resting ∷ resting ∷ []) []
+    (record { kind = MessageKind.Put; operation = 1; sender = writer; receiver = c0; stamp = 1; figure = 6 } ∷ [])
 
 made : State ℕ → Call ℕ → Outcome ℕ
 unfolding opened

@@ -38,12 +38,23 @@ use Rattle.model.proofs.Ends.{line-none}
 abbrev pub opening : {F : Type 0} → Call F → Effect F → Event F
 opening c e = record { call = c; reply = e .reply; taken = []; sent = e .sent }
 
-module _ {F : Type 0} (q : Rule) (R : ℕ) (law : Lawful q) (start : F) (w : World F) (s : State F) (h : History F) (g : Good q R start w s h) where
+module _ {F : Type 0} (q : Rule) (R : ℕ) (law : Lawful q) (start : F) (w : World F) (s : State F) (h : History F)
+    (g : Good q R start w s h) where
   module _ (o : Op) (last : ℕ) (value : ℕ → Held F) (wrote : ℕ → ℕ) where
     abbrev v₅ : World F
-    v₅ = record { now = suc (w .now); last = last; count = suc (w .count); at = w .at; ops = put-at (w .ops) (suc (w .count)) o; value = value; wrote = wrote; since = w .since }
+    v₅ = record {
+      now = suc (w .now);
+      last = last;
+      count = suc (w .count);
+      at = w .at;
+      ops = put-at (w .ops) (suc (w .count)) o;
+      value = value;
+      wrote = wrote;
+      since = w .since;
+    }
 
-    module _ (up : Later q w v₅) (core : Core q v₅) (born : 1 ≤ o .stage) (unfinished : o .stage ≤ 2) (begun-is : o .begun ≡ w .now) where
+    module _ (up : Later q w v₅) (core : Core q v₅) (born : 1 ≤ o .stage) (unfinished : o .stage ≤ 2)
+        (begun-is : o .begun ≡ w .now) where
       number-is : suc (w .count) ≡ next-number s
       number-is = ap suc (g .count-is)
 
@@ -51,7 +62,8 @@ module _ {F : Type 0} (q : Rule) (R : ℕ) (law : Lawful q) (start : F) (w : Wor
       here = ap (put-at (w .ops) (suc (w .count)) o) (sym number-is) ∙ put-same (w .ops) (suc (w .count)) o
 
       pub still : (p : Party) → Still q R start w v₅ up p
-      still p i b c = ap (λ y. y .stage) (put-other (w .ops) (suc (w .count)) o i (λ d. omega (arith, g .core .op i .counted b)))
+      still p i b c =
+          ap (λ y. y .stage) (put-other (w .ops) (suc (w .count)) o i (λ d. omega (arith, g .core .op i .counted b)))
 
       module _ (nl : Operation F) (good-line : LineGood v₅ o nl) (d : List (Reader F)) (wr : Writer)
           (free : current (s .start) (s .writer .operation) (s .readers) (o .owner) ≡ 0)
@@ -63,8 +75,10 @@ module _ {F : Type 0} (q : Rule) (R : ℕ) (law : Lawful q) (start : F) (w : Wor
             (record { busy = λ _ _. at-new-one ∙ sym number-is; latest = λ _ _. omega (arith, at-new-one, number-is) })
             (λ i n. elim (apart ((w .ops i) .owner)) [
               | inl e ↦
-                  let z : current (s .start) (s .writer .operation) (s .readers) ((w .ops i) .owner) ≡ 0 = subst (λ p. current (s .start) (s .writer .operation) (s .readers) p ≡ 0) e free in
-                  let y : current (s .start) (wr .operation) d ((w .ops i) .owner) ≡ next-number s = subst (λ p. current (s .start) (wr .operation) d p ≡ next-number s) e at-new-one in
+                  let z : current (s .start) (s .writer .operation) (s .readers) ((w .ops i) .owner) ≡ 0 = subst
+                  (λ p. current (s .start) (s .writer .operation) (s .readers) p ≡ 0) e free in
+                  let y : current (s .start) (wr .operation) d ((w .ops i) .owner) ≡ next-number s = subst
+                  (λ p. current (s .start) (wr .operation) d p ≡ next-number s) e at-new-one in
                   record {
                     busy = λ b l. absurd (omega (arith, z, g .at-work i .busy b l, g .core .op i .named b));
                     latest = λ b _. omega (arith, y, g .core .op i .counted b, g .count-is);
@@ -106,20 +120,37 @@ module _ {F : Type 0} (q : Rule) (R : ℕ) (law : Lawful q) (start : F) (w : Wor
               writer = writer;
               readers-are = width;
               marks = λ i. mark-later q R start w v₅ up (i / R) (getD (s .marks) i new-mark) (g .marks i);
-              lines = put-each (λ i p. LineGood v₅ p (getD (s .journal ++ nl ∷ []) (pred i) (no-line (s .start)))) (w .ops) (suc (w .count)) o
+              lines =
+                  put-each (λ i p. LineGood v₅ p (getD (s .journal ++ nl ∷ []) (pred i) (no-line (s .start))))
+                  (w .ops) (suc (w .count)) o
                   (let c : pred (suc (w .count)) ≡ length (s .journal) = omega (arith, g .count-is) in
-                  subst (LineGood v₅ o) (sym (ap (λ k. getD (s .journal ++ nl ∷ []) k (no-line (s .start))) c ∙ get-new (s .journal) nl (no-line (s .start)))) good-line)
+                  subst (LineGood v₅ o)
+                  (sym (ap (λ k. getD (s .journal ++ nl ∷ []) k (no-line (s .start))) c ∙ get-new (s .journal) nl (no-line (s .start))))
+                  good-line)
                   (λ i n. elim (cases-eq ((w .ops i) .stage) 0) [
                     | inl z ↦ line-none v₅ (w .ops i) _ z
                     | inr z ↦ subst (LineGood v₅ (w .ops i)) (sym (get-old (s .journal) nl (no-line (s .start)) (pred i) (omega (arith, g .core .op i .counted (omega arith), g .core .op i .named (omega arith), g .count-is))))
                         (line-later q R start w v₅ up (g .core) i (line s i) (g .lines i))
                   ]);
               at-work = work₅;
-              told = record { answers = record { stage-is = omega (arith, ap (λ y. y .stage) here); begun-is = ap (λ y. y .begun) here ∙ begun-is ∙ g .now-is; opens = opens }; sent-says = says };
-              begun = put-each (λ i p. 1 ≤ p .stage → (1 ≤ (w .ops i) .stage) ⊎ ((p .begun ≡ length h) × (_≡_ {A = Reply F} (Reply.Started (next-number s)) (Reply.Started i)))) (w .ops) (suc (w .count)) o
+              told = record {
+                answers = record {
+                  stage-is = omega (arith, ap (λ y. y .stage) here);
+                  begun-is = ap (λ y. y .begun) here ∙ begun-is ∙ g .now-is;
+                  opens = opens;
+                };
+                sent-says = says;
+              };
+              begun =
+                  put-each
+                  (λ i p. 1 ≤ p .stage → (1 ≤ (w .ops i) .stage) ⊎ ((p .begun ≡ length h) × (_≡_ {A = Reply F} (Reply.Started (next-number s)) (Reply.Started i))))
+                  (w .ops) (suc (w .count)) o
                   (λ _. inr (begun-is ∙ g .now-is, λ i. Reply.Started (sym number-is i)))
                   (λ i _ l. inl l);
-              ended = put-each (λ i p. 3 ≤ p .stage → (3 ≤ (w .ops i) .stage) ⊎ ((p .ended ≡ length h) × Closes (record { call = c; reply = Reply.Started (next-number s); taken = []; sent = sent }) i (value (p .aim)))) (w .ops) (suc (w .count)) o
+              ended =
+                  put-each
+                  (λ i p. 3 ≤ p .stage → (3 ≤ (w .ops i) .stage) ⊎ ((p .ended ≡ length h) × Closes (record { call = c; reply = Reply.Started (next-number s); taken = []; sent = sent }) i (value (p .aim))))
+                  (w .ops) (suc (w .count)) o
                   (λ l. absurd (omega arith)) (λ i _ l. inl l);
             })
 
@@ -127,7 +158,8 @@ module _ {F : Type 0} (q : Rule) (R : ℕ) (law : Lawful q) (start : F) (w : Wor
     abbrev v₆ : World F
     v₆ = read-begun w (Party.Reader r)
 
-    asked : (kind : ReadKind) (m : Message F) → v₆ .ops (m .operation) ≡ read-op w (Party.Reader r) → Says q R v₆ (opening-message kind) m
+    asked : (kind : ReadKind) (m : Message F) → v₆ .ops (m .operation) ≡ read-op w (Party.Reader r)
+        → Says q R v₆ (opening-message kind) m
     asked ReadKind.Quick m e = omega (arith, ap (λ y. y .stage) e)
     asked ReadKind.Settled m e = omega (arith, ap (λ y. y .stage) e)
     asked ReadKind.Relay m e = record {
@@ -136,7 +168,8 @@ module _ {F : Type 0} (q : Rule) (R : ℕ) (law : Lawful q) (start : F) (w : Wor
       owner-reads = subst (λ p. p ≡ Party.Reader (index p)) (sym (ap (λ y. y .owner) e)) refl;
     }
 
-    opened : (kind : ReadKind) (d : Reader F) → best d ≡ unused start → d .replies ≡ 0 → v₆ .ops (d .operation) ≡ read-op w (Party.Reader r) → InPhase q v₆ r (opening-phase kind) d
+    opened : (kind : ReadKind) (d : Reader F) → best d ≡ unused start → d .replies ≡ 0
+        → v₆ .ops (d .operation) ≡ read-op w (Party.Reader r) → InPhase q v₆ r (opening-phase kind) d
     opened ReadKind.Quick d b z e = record {
       stage-is = ap (λ y. y .stage) e;
       owner-is = ap (λ y. y .owner) e;
@@ -162,18 +195,24 @@ module _ {F : Type 0} (q : Rule) (R : ℕ) (law : Lawful q) (start : F) (w : Wor
       placed = λ c m. omega (arith, ap (λ y. rank (y .stamp)) b, rank-start);
     }
 
-  module _ (r : ℕ) (low : r < R) (free : (reader s r) .operation ≡ 0) (d : Reader F) (op-is : d .operation ≡ next-number s) where
-    others-read : (p : Party) → (Party.Reader r ≡ p → ⊥) → current (s .start) (s .writer .operation) (set (s .readers) r d) p ≡ current (s .start) (s .writer .operation) (s .readers) p
+  module _ (r : ℕ) (low : r < R) (free : (reader s r) .operation ≡ 0) (d : Reader F)
+      (op-is : d .operation ≡ next-number s) where
+    others-read : (p : Party) → (Party.Reader r ≡ p → ⊥)
+        → current (s .start) (s .writer .operation) (set (s .readers) r d) p ≡ current (s .start) (s .writer .operation) (s .readers) p
     others-read Party.Writer n = refl
     others-read (Party.Reader k) n =
-        each-set (λ i y. (i ≡ r → ⊥) → y .operation ≡ (getD (s .readers) i (new-reader (s .start))) .operation) (s .readers) r d (new-reader (s .start))
+        each-set (λ i y. (i ≡ r → ⊥) → y .operation ≡ (getD (s .readers) i (new-reader (s .start))) .operation)
+        (s .readers) r d (new-reader (s .start))
         (λ z. absurd (z refl)) (λ _ z. absurd (z refl)) (λ i _ _. refl) k (λ e. n (ap (λ i. Party.Reader i) (sym e)))
     others-read (Party.Replica c) n = refl
 
     now-read : current (s .start) (s .writer .operation) (set (s .readers) r d) (Party.Reader r) ≡ next-number s
-    now-read = ap (λ y. y .operation) (get-set (s .readers) r d (new-reader (s .start)) (omega (arith, g .readers-are))) ∙ op-is
+    now-read =
+        ap (λ y. y .operation) (get-set (s .readers) r d (new-reader (s .start)) (omega (arith, g .readers-are))) ∙
+        op-is
 
-  pub kept-read : (r : ℕ) (kind : ReadKind) → r < R → (reader s r) .operation ≡ 0 → Kept q R start h (opening (Call.Read r kind)) (read q s r kind)
+  pub kept-read : (r : ℕ) (kind : ReadKind) → r < R → (reader s r) .operation ≡ 0
+      → Kept q R start h (opening (Call.Read r kind)) (read q s r kind)
   unfolding read
   kept-read r kind low free =
       let p : Party = Party.Reader r in
@@ -190,7 +229,8 @@ module _ {F : Type 0} (q : Rule) (R : ℕ) (law : Lawful q) (start : F) (w : Wor
             begins o (w .last) (w .value) (w .wrote) up core (omega arith) (omega arith) refl
             (record { kind = OperationKind.Read kind; owner = p; started = next-number s + s .finished; finished = 0; exchanges = 0; stamp = no-stamp; figure = s .start; sent = 0 })
             (record { owner-is = λ _. refl; write-rank = λ _ f. absurd (both-ways _ f refl); write-value = λ _ f. absurd (both-ways _ f refl) })
-            (set (s .readers) r d) (s .writer) free (now-read r low free d refl) (others-read r low free d refl) (apart-reader r)
+            (set (s .readers) r d) (s .writer) free (now-read r low free d refl) (others-read r low free d refl)
+            (apart-reader r)
             (Call.Read r kind) _ (g .last-is)
             (all-to-all (opening-message kind) (next-number s) p (unused (s .start)) (λ m. Says q R v (m .kind) m) (q .size) (λ c _. asked r low kind _ hr))
             (record { reads = ap (λ y. y .reading) hr; owner-is = ap (λ y. y .owner) hr })
@@ -202,7 +242,8 @@ module _ {F : Type 0} (q : Rule) (R : ℕ) (law : Lawful q) (start : F) (w : Wor
             (writing-later q R start w v up (st Party.Writer) (s .writer .operation) (s .writer .acknowledgers) (g .writer));
       }
 
-  others-write : (n : ℕ) (p : Party) → (Party.Writer ≡ p → ⊥) → current (s .start) n (s .readers) p ≡ current (s .start) (s .writer .operation) (s .readers) p
+  others-write : (n : ℕ) (p : Party) → (Party.Writer ≡ p → ⊥)
+      → current (s .start) n (s .readers) p ≡ current (s .start) (s .writer .operation) (s .readers) p
   others-write n Party.Writer z = absurd (z refl)
   others-write n (Party.Reader k) z = refl
   others-write n (Party.Replica c) z = refl
@@ -228,7 +269,8 @@ module _ {F : Type 0} (q : Rule) (R : ℕ) (law : Lawful q) (start : F) (w : Wor
             begins o a value wrote up core (omega arith) (omega arith) refl
             (record { kind = OperationKind.Write; owner = Party.Writer; started = next-number s + s .finished; finished = 0; exchanges = 0; stamp = x .stamp; figure = f; sent = 0 })
             (record { owner-is = λ _. refl; write-rank = λ _ _. refl; write-value = λ _ _. value-is })
-            (s .readers) (writing (s .writer) (next-number s) (x .stamp)) free refl (others-write (next-number s)) apart-writer
+            (s .readers) (writing (s .writer) (next-number s) (x .stamp)) free refl (others-write (next-number s))
+            apart-writer
             (Call.Write f) _ refl
             (all-to-all MessageKind.Put (next-number s) Party.Writer x (λ m. Says q R v (m .kind) m) (q .size)
             (λ c k. record { settled = omega (arith, ap (λ y. y .stage) hr); aims = sym (ap (λ y. y .aim) hr); true-figure = record { written = record { low = omega arith; by-one = λ _. omega (arith, put-same (w .wrote) a (suc (w .count))) }; is = value-is }; to-low = k }))

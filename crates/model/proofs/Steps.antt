@@ -32,14 +32,17 @@ use Rattle.model.proofs.Good.{current, True, Asks, Says, First, Second, InPhas
 
 -- What is known does not go by the counts of messages in the journal.
 module _ {F : Type 0} where
-  pub counted-each : (P : ℕ → Operation F → Type 0) → ((k : ℕ) (o : Operation F) → P k o → P k (one-sent o)) → (f : F) (l : List (Message F)) (journal : List (Operation F))
+  pub counted-each : (P : ℕ → Operation F → Type 0) → ((k : ℕ) (o : Operation F) → P k o → P k (one-sent o))
+      → (f : F) (l : List (Message F)) (journal : List (Operation F))
       → ((k : ℕ) → P k (getD journal k (no-line f))) → (k : ℕ) → P k (getD (counted f journal l) k (no-line f))
   unfolding counted
   counted-each P more f [] journal h = h
   counted-each P more f (m ∷ l) journal h =
-      counted-each P more f l _ (each-set-all P journal (pred (m .operation)) _ (no-line f) (more _ _ (h (pred (m .operation)))) h)
+      counted-each P more f l _
+      (each-set-all P journal (pred (m .operation)) _ (no-line f) (more _ _ (h (pred (m .operation)))) h)
 
-  pub length-counted : (f : F) (l : List (Message F)) (journal : List (Operation F)) → length (counted f journal l) ≡ length journal
+  pub length-counted : (f : F) (l : List (Message F)) (journal : List (Operation F))
+      → length (counted f journal l) ≡ length journal
   unfolding counted
   length-counted f [] journal = refl
   length-counted f (m ∷ l) journal = length-counted f l _ ∙ length-set journal (pred (m .operation)) _
@@ -48,7 +51,8 @@ module _ {F : Type 0} where
   one-more-line w o l x = record { owner-is = x .owner-is; write-rank = x .write-rank; write-value = x .write-value }
 
   -- What is sent joins the other messages.
-  pub posts : (q : Rule) (R : ℕ) (start : F) (w : World F) (s : State F) (h : History F) (e : Event F) → Good q R start w s (h ++ e ∷ []) → Good q R start w (posted s (e .sent)) (h ++ e ∷ [])
+  pub posts : (q : Rule) (R : ℕ) (start : F) (w : World F) (s : State F) (h : History F) (e : Event F)
+      → Good q R start w s (h ++ e ∷ []) → Good q R start w (posted s (e .sent)) (h ++ e ∷ [])
   posts q R start w s h e g = record {
     core = g .core;
     first-value = g .first-value;
@@ -59,13 +63,16 @@ module _ {F : Type 0} where
     at-is = g .at-is;
     figures = g .figures;
     replicas-are = g .replicas-are;
-    messages = all-append (λ m. Says q R w (m .kind) m) (s .messages) (e .sent) (g .messages) (g .told (length h) e (at-new h e) .sent-says);
+    messages =
+        all-append (λ m. Says q R w (m .kind) m) (s .messages) (e .sent) (g .messages)
+        (g .told (length h) e (at-new h e) .sent-says);
     readers = g .readers;
     writer = g .writer;
     readers-are = g .readers-are;
     marks = g .marks;
     lines = λ j. counted-each (λ k o. k ≡ pred j → LineGood w (w .ops j) o) (λ k o x z. one-more-line w (w .ops j) o (x z)) (s .start) (e .sent) (s .journal)
-        (λ k z. subst (λ y. LineGood w (w .ops j) (getD (s .journal) y (no-line (s .start)))) (sym z) (g .lines j)) (pred j) refl;
+        (λ k z. subst (λ y. LineGood w (w .ops j) (getD (s .journal) y (no-line (s .start)))) (sym z) (g .lines j))
+        (pred j) refl;
     at-work = g .at-work;
     told = g .told;
     begun = g .begun;
@@ -75,16 +82,22 @@ module _ {F : Type 0} where
   abbrev pub delivery : ℕ → List (Message F) → Effect F → Event F
   delivery place taken e = record { call = Call.Deliver place; reply = e .reply; taken = taken; sent = e .sent }
 
-  pub same-current : (start : F) (n n′ : ℕ) (d d′ : List (Reader F)) → n′ ≡ n → ((r : ℕ) → (getD d′ r (new-reader start)) .operation ≡ (getD d r (new-reader start)) .operation)
+  pub same-current : (start : F) (n n′ : ℕ) (d d′ : List (Reader F)) → n′ ≡ n
+      → ((r : ℕ) → (getD d′ r (new-reader start)) .operation ≡ (getD d r (new-reader start)) .operation)
       → (p : Party) → current start n′ d′ p ≡ current start n d p
   same-current start n n′ d d′ e h Party.Writer = e
   same-current start n n′ d d′ e h (Party.Reader r) = h r
   same-current start n n′ d d′ e h (Party.Replica c) = refl
 
-  pub work-later : (start : F) (n n′ : ℕ) (d d′ : List (Reader F)) (j : ℕ) (o : Op) → current start n′ d′ (o .owner) ≡ current start n d (o .owner) → AtWork start n d j o → AtWork start n′ d′ j o
-  work-later start n n′ d d′ j o e x = record { busy = λ a b. e ∙ x .busy a b; latest = λ a b. omega (arith, e, x .latest a (omega (arith, e))) }
+  pub work-later : (start : F) (n n′ : ℕ) (d d′ : List (Reader F)) (j : ℕ) (o : Op)
+      → current start n′ d′ (o .owner) ≡ current start n d (o .owner) → AtWork start n d j o → AtWork start n′ d′ j o
+  work-later start n n′ d d′ j o e x = record {
+    busy = λ a b. e ∙ x .busy a b;
+    latest = λ a b. omega (arith, e, x .latest a (omega (arith, e)));
+  }
 
-module _ {F : Type 0} (q : Rule) (R : ℕ) (law : Lawful q) (start : F) (w : World F) (s : State F) (h : History F) (g : Good q R start w s h) where
+module _ {F : Type 0} (q : Rule) (R : ℕ) (law : Lawful q) (start : F) (w : World F) (s : State F) (h : History F)
+    (g : Good q R start w s h) where
   abbrev pub v₁ : World F
   v₁ = ticked w
 
@@ -98,7 +111,8 @@ module _ {F : Type 0} (q : Rule) (R : ℕ) (law : Lawful q) (start : F) (w : Wor
   old-reader r = phase-later q R start w v₁ up₁ r (λ j b e. refl) ((reader s r) .phase) (reader s r) (g .readers r)
 
   pub old-writer : Writing v₁ (s .writer .operation) (s .writer .acknowledgers)
-  old-writer = writing-later q R start w v₁ up₁ (λ j b e. refl) (s .writer .operation) (s .writer .acknowledgers) (g .writer)
+  old-writer =
+      writing-later q R start w v₁ up₁ (λ j b e. refl) (s .writer .operation) (s .writer .acknowledgers) (g .writer)
 
   pub old-figures : (c : ℕ) → True v₁ ((replica s c) .stamp) ((replica s c) .figure)
   old-figures c = true-later q R start w v₁ up₁ (g .figures c)
@@ -139,17 +153,29 @@ module _ {F : Type 0} (q : Rule) (R : ℕ) (law : Lawful q) (start : F) (w : Wor
       })
 
   -- One that changes only which messages wait.
-  pub waits-only : (t : List (Message F)) (e : Event F) → Told q R v₁ (length h) e → All (λ m. Says q R v₁ (m .kind) m) t → Good q R start v₁ (with-messages s t) (h ++ e ∷ [])
-  waits-only t e told messages = ticks (s .replicas) (s .readers) t (s .writer) e told (g .replicas-are) (g .readers-are) refl refl (λ r. refl) (g .at-is) old-figures messages old-reader old-writer
+  pub waits-only : (t : List (Message F)) (e : Event F) → Told q R v₁ (length h) e
+      → All (λ m. Says q R v₁ (m .kind) m) t → Good q R start v₁ (with-messages s t) (h ++ e ∷ [])
+  waits-only t e told messages =
+      ticks (s .replicas) (s .readers) t (s .writer) e told (g .replicas-are) (g .readers-are) refl refl (λ r. refl)
+      (g .at-is) old-figures messages old-reader old-writer
 
   pub keeps-declined : (c : Call F) (x : Refusal) → Keeps q R start h c (declined s x)
-  keeps-declined c x = record { world = v₁; good = waits-only (s .messages) _ (record { answers = tt; sent-says = tt }) old-messages }
+  keeps-declined c x = record {
+    world = v₁;
+    good = waits-only (s .messages) _ (record { answers = tt; sent-says = tt }) old-messages;
+  }
 
   pub keeps-dropped : (place : ℕ) → Keeps q R start h (Call.Drop place) (dropped s place)
   unfolding dropped
-  keeps-dropped place = record { world = v₁; good = waits-only _ _ (record { answers = tt; sent-says = tt }) (all-without (λ m. Says q R v₁ (m .kind) m) (s .messages) place old-messages) }
+  keeps-dropped place = record {
+    world = v₁;
+    good =
+        waits-only _ _ (record { answers = tt; sent-says = tt })
+        (all-without (λ m. Says q R v₁ (m .kind) m) (s .messages) place old-messages);
+  }
 
-  pub keeps-duplicated : (place : ℕ) → place < length (s .messages) → Keeps q R start h (Call.Duplicate place) (duplicated s place)
+  pub keeps-duplicated : (place : ℕ) → place < length (s .messages)
+      → Keeps q R start h (Call.Duplicate place) (duplicated s place)
   unfolding duplicated
   keeps-duplicated place l = record {
     world = v₁;
@@ -159,24 +185,55 @@ module _ {F : Type 0} (q : Rule) (R : ℕ) (law : Lawful q) (start : F) (w : Wor
 
   same-phase : (r : ℕ) (p : Phase) (d : Reader F) → InPhase q v₁ r p d → InPhase q v₁ r p (reader-halted d)
   same-phase r Phase.Idle d x = tt
-  same-phase r Phase.First d x = record { stage-is = x .stage-is; owner-is = x .owner-is; reads = x .reads; true-figure = x .true-figure; asked = x .asked; holding = x .holding }
-  same-phase r Phase.Second d x = record { stage-is = x .stage-is; owner-is = x .owner-is; reads = x .reads; true-figure = x .true-figure; aims = x .aims; placed = x .placed }
-  same-phase r Phase.Relay d x = record { stage-is = x .stage-is; owner-is = x .owner-is; reads = x .reads; true-figure = x .true-figure; high = x .high; placed = x .placed }
+  same-phase r Phase.First d x = record {
+    stage-is = x .stage-is;
+    owner-is = x .owner-is;
+    reads = x .reads;
+    true-figure = x .true-figure;
+    asked = x .asked;
+    holding = x .holding;
+  }
+  same-phase r Phase.Second d x = record {
+    stage-is = x .stage-is;
+    owner-is = x .owner-is;
+    reads = x .reads;
+    true-figure = x .true-figure;
+    aims = x .aims;
+    placed = x .placed;
+  }
+  same-phase r Phase.Relay d x = record {
+    stage-is = x .stage-is;
+    owner-is = x .owner-is;
+    reads = x .reads;
+    true-figure = x .true-figure;
+    high = x .high;
+    placed = x .placed;
+  }
 
   pub keeps-halt : (p : Party) → Keeps q R start h (Call.Halt p) (halt s p)
   unfolding halt
-  keeps-halt Party.Writer = record { world = v₁; good = ticks (s .replicas) (s .readers) (s .messages) (writer-halted (s .writer)) _ (record { answers = tt; sent-says = tt }) (g .replicas-are) (g .readers-are) refl refl (λ r. refl) (g .at-is) old-figures old-messages old-reader old-writer }
+  keeps-halt Party.Writer = record {
+    world = v₁;
+    good =
+        ticks (s .replicas) (s .readers) (s .messages) (writer-halted (s .writer)) _
+        (record { answers = tt; sent-says = tt }) (g .replicas-are) (g .readers-are) refl refl (λ r. refl) (g .at-is)
+        old-figures old-messages old-reader old-writer;
+  }
   keeps-halt (Party.Reader r) = record {
     world = v₁;
     good =
-        ticks (s .replicas) _ (s .messages) (s .writer) _ (record { answers = tt; sent-says = tt }) (g .replicas-are) (length-set (s .readers) r _ ∙ g .readers-are) refl refl
-        (each-set-all (λ k y. y .operation ≡ (reader s k) .operation) (s .readers) r _ _ refl (λ k. refl)) (g .at-is) old-figures old-messages
-        (each-set-all (λ k x. InPhase q v₁ k (x .phase) x) (s .readers) r _ _ (same-phase r _ _ (old-reader r)) old-reader) old-writer;
+        ticks (s .replicas) _ (s .messages) (s .writer) _ (record { answers = tt; sent-says = tt }) (g .replicas-are)
+        (length-set (s .readers) r _ ∙ g .readers-are) refl refl
+        (each-set-all (λ k y. y .operation ≡ (reader s k) .operation) (s .readers) r _ _ refl (λ k. refl)) (g .at-is)
+        old-figures old-messages
+        (each-set-all (λ k x. InPhase q v₁ k (x .phase) x) (s .readers) r _ _ (same-phase r _ _ (old-reader r)) old-reader)
+        old-writer;
   }
   keeps-halt (Party.Replica c) = record {
     world = v₁;
     good =
-        ticks _ (s .readers) (s .messages) (s .writer) _ (record { answers = tt; sent-says = tt }) (length-set (s .replicas) c _ ∙ g .replicas-are) (g .readers-are) refl refl (λ r. refl)
+        ticks _ (s .readers) (s .messages) (s .writer) _ (record { answers = tt; sent-says = tt })
+        (length-set (s .replicas) c _ ∙ g .replicas-are) (g .readers-are) refl refl (λ r. refl)
         (each-set-all (λ k x. v₁ .at k ≡ rank (x .stamp)) (s .replicas) c _ _ (g .at-is c) (g .at-is))
         (each-set-all (λ k x. True v₁ (x .stamp) (x .figure)) (s .replicas) c _ _ (old-figures c) old-figures)
         old-messages old-reader old-writer;
@@ -188,7 +245,10 @@ module _ {F : Type 0} (q : Rule) (R : ℕ) (law : Lawful q) (start : F) (w : Wor
     K = Kept q R start h (delivery place taken)
 
     pub kept-quiet : K (quiet s)
-    kept-quiet = record { world = v₁; good = waits-only (s .messages) _ (record { answers = tt; sent-says = tt }) old-messages }
+    kept-quiet = record {
+      world = v₁;
+      good = waits-only (s .messages) _ (record { answers = tt; sent-says = tt }) old-messages;
+    }
 
     pub kept-query : (m : Message F) → Says q R w MessageKind.Query m → K (on-query s m)
     unfolding on-query
@@ -199,7 +259,9 @@ module _ {F : Type 0} (q : Rule) (R : ℕ) (law : Lawful q) (start : F) (w : Wor
         sent-says = (
           record {
             born = x;
-            fresh = omega (arith, g .at-is (index (m .receiver)), g .core .op (m .operation) .grown x (index (m .receiver)));
+            fresh =
+                omega
+                (arith, g .at-is (index (m .receiver)), g .core .op (m .operation) .grown x (index (m .receiver)));
             grown = omega (arith, g .at-is (index (m .receiver)));
             true-figure = old-figures (index (m .receiver));
             to-owner = g .lines (m .operation) .owner-is x;
@@ -221,7 +283,9 @@ module _ {F : Type 0} (q : Rule) (R : ℕ) (law : Lawful q) (start : F) (w : Wor
               born = x .born;
               owner-low = x .owner-low;
               owner-reads = x .owner-reads;
-              fresh = omega (arith, g .at-is (index (m .receiver)), g .core .op (m .operation) .grown (x .born) (index (m .receiver)));
+              fresh =
+                  omega
+                  (arith, g .at-is (index (m .receiver)), g .core .op (m .operation) .grown (x .born) (index (m .receiver)));
               true-figure = old-figures (index (m .receiver));
               to-low = l;
             });

@@ -41,7 +41,8 @@ is-start (Reply.Finished n t f sent exchanges) = false
 is-start Reply.Done = false
 is-start (Reply.Declined e) = false
 
-module _ {F : Type 0} (q : Rule) (R : ℕ) (law : Lawful q) (start : F) (w : World F) (s : State F) (h : History F) (g : Good q R start w s h) where
+module _ {F : Type 0} (q : Rule) (R : ℕ) (law : Lawful q) (start : F) (w : World F) (s : State F) (h : History F)
+    (g : Good q R start w s h) where
   abbrev op : ℕ → Op
   op = w .ops
 
@@ -51,14 +52,16 @@ module _ {F : Type 0} (q : Rule) (R : ℕ) (law : Lawful q) (start : F) (w : Wor
   pub ends-at : (m n : ℕ) (x : Held F) → Finishes h m n x → Ends w m n x
   ends-at m n x f = answers-at m (f .0) (Reply.Finished n (x .stamp) (x .figure) (f .2) (f .3)) (f .4) (f .6)
 
-  pub begins-at : (m : ℕ) (e : Event F) (n : ℕ) → At h m e → e .reply ≡ Reply.Started n → Begins w m n (e .call) (e .sent)
+  pub begins-at : (m : ℕ) (e : Event F) (n : ℕ) → At h m e → e .reply ≡ Reply.Started n
+      → Begins w m n (e .call) (e .sent)
   begins-at m e n a d = answers-at m e (Reply.Started n) a d
 
   -- A write that has begun, a read that has begun, and a read that has finished are in the history.
 
   puts-aim : (n : ℕ) (a : Message F) → Put h n a → (rank (a .stamp) ≡ (op n) .aim) × (a .stamp ≡ (shown w n) .stamp)
   puts-aim n a p =
-      let says = all-in (λ y. Says q R w (y .kind) y) (p .1 .sent) a (g .told (p .0) (p .1) (p .2) .sent-says) (p .3) in
+      let says = all-in (λ y. Says q R w (y .kind) y) (p .1 .sent) a (g .told (p .0) (p .1) (p .2) .sent-says) (p .3)
+      in
       let store = subst (λ k. Says q R w k a) (p .4) says in
       let aims = store .aims ∙ ap (λ i. (op i) .aim) (p .5) in
       (aims, ap (λ y. y .stamp) (store .true-figure .is ∙ ap (w .value) aims))
@@ -77,10 +80,12 @@ module _ {F : Type 0} (q : Rule) (R : ℕ) (law : Lawful q) (start : F) (w : Wor
   pub writes : (n : ℕ) → 1 ≤ (op n) .stage → (op n) .reading ≡ false → Writes h n (shown w n)
   writes n b r =
       let s = g .begun n b in
-      write-shown n ((op n) .begun) (s .0) (s .1) (s .2) r (s .0 .call) refl (begins-at _ (s .0) n (s .1) (s .2) .opens)
+      write-shown n ((op n) .begun) (s .0) (s .1) (s .2) r (s .0 .call) refl
+      (begins-at _ (s .0) n (s .1) (s .2) .opens)
 
   -- The owner and the kind that a start names are those of the operation.
-  opens-asked : (n : ℕ) (c : Call F) (sent : List (Message F)) (p : Party) (k : OperationKind) → asked c ≡ Some (p, k) → Opens w n c sent
+  opens-asked : (n : ℕ) (c : Call F) (sent : List (Message F)) (p : Party) (k : OperationKind) → asked c ≡ Some (p, k)
+      → Opens w n c sent
       → ((op n) .owner ≡ p) × ((op n) .reading ≡ is-read k)
   opens-asked n (Call.Write f) sent p k e o = (o .owner-is ∙ ap owner-asked e, o .writes ∙ ap read-asked e)
   opens-asked n (Call.Read r kind) sent p k e o = (o .owner-is ∙ ap owner-asked e, o .reads ∙ ap read-asked e)
@@ -104,7 +109,8 @@ module _ {F : Type 0} (q : Rule) (R : ℕ) (law : Lawful q) (start : F) (w : Wor
   abbrev StartsAt : ℕ → ℕ → Type 0
   StartsAt m n = (p : Party) × (k : OperationKind) × Starts h m n p k
 
-  start-shown : (n m : ℕ) (e : Event F) → At h m e → e .reply ≡ Reply.Started n → (c : Call F) → e .call ≡ c → Opens w n c (e .sent) → StartsAt m n
+  start-shown : (n m : ℕ) (e : Event F) → At h m e → e .reply ≡ Reply.Started n → (c : Call F) → e .call ≡ c
+      → Opens w n c (e .sent) → StartsAt m n
   start-shown n m e a d (Call.Write f) i o = (Party.Writer, OperationKind.Write, (e, a, ap asked i, d))
   start-shown n m e a d (Call.Read r kind) i o = (Party.Reader r, OperationKind.Read kind, (e, a, ap asked i, d))
   start-shown n m e a d (Call.Deliver p) i o = absurd o
@@ -130,7 +136,8 @@ module _ {F : Type 0} (q : Rule) (R : ℕ) (law : Lawful q) (start : F) (w : Wor
 
   -- And conversely.
 
-  pub write-is : (n : ℕ) (x : Held F) → Writes h n x → (1 ≤ (op n) .stage) × ((op n) .reading ≡ false) × (rank (x .stamp) ≡ (op n) .aim)
+  pub write-is : (n : ℕ) (x : Held F) → Writes h n x
+      → (1 ≤ (op n) .stage) × ((op n) .reading ≡ false) × (rank (x .stamp) ≡ (op n) .aim)
   write-is n x v =
       let b = begins-at (v .0) (v .1) n (v .2) (v .4) in
       let o = subst (λ c. Opens w n c (v .1 .sent)) (v .3) (b .opens) in
@@ -150,7 +157,8 @@ module _ {F : Type 0} (q : Rule) (R : ℕ) (law : Lawful q) (start : F) (w : Wor
         | inr d ↦ omega (arith, g .core .op n .ended-after (y .stage-is), y .ended-is)
         | inl d ↦
             let e = at-same h m (f .0) (b .0) (f .4) (subst (λ k. At h k (b .0)) d (b .1)) in
-            absurd (both-ways false refl (sym (ap is-start (f .6)) ∙ ap (λ (v : Event F). is-start (v .reply)) e ∙ ap is-start (b .2)))
+            absurd
+            (both-ways false refl (sym (ap is-start (f .6)) ∙ ap (λ (v : Event F). is-start (v .reply)) e ∙ ap is-start (b .2)))
       ]
 
   pub numbered : Numbered h s

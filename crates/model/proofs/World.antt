@@ -25,7 +25,8 @@ unfolding put-at
 put-other f k v j n = cond-false (eqb j k) v (f j) (ne-eqb j k n)
 
 -- What holds at k and elsewhere holds everywhere.
-pub put-each : {A : Type 0} (P : ℕ → A → Type 0) (f : ℕ → A) (k : ℕ) (v : A) → P k v → ((j : ℕ) → (j ≡ k → ⊥) → P j (f j)) → (j : ℕ) → P j (put-at f k v j)
+pub put-each : {A : Type 0} (P : ℕ → A → Type 0) (f : ℕ → A) (k : ℕ) (v : A) → P k v
+    → ((j : ℕ) → (j ≡ k → ⊥) → P j (f j)) → (j : ℕ) → P j (put-at f k v j)
 unfolding put-at
 put-each P f k v h o j =
     cond-both (eqb j k) v (f j) (P j)
@@ -38,7 +39,8 @@ module _ (q : Rule) where
   held at t = q .hold (λ c. leb t (at c))
 
   module _ (law : Lawful q) where
-    pub held-from : (a : Members) (at : ℕ → ℕ) (t : ℕ) → q .hold a ≡ true → ((c : ℕ) → a c ≡ true → t ≤ at c) → held at t ≡ true
+    pub held-from : (a : Members) (at : ℕ → ℕ) (t : ℕ) → q .hold a ≡ true → ((c : ℕ) → a c ≡ true → t ≤ at c)
+        → held at t ≡ true
     unfolding held
     held-from a at t h u = law .hold-more a (λ c. leb t (at c)) (λ k l m. le-leb t (at k) (u k m)) h
 
@@ -47,13 +49,15 @@ module _ (q : Rule) where
     held-up at bt t u up h = held-from (λ c. leb t (at c)) bt u h (λ c m. up c (leb-true t (at c) m))
 
     -- A hold set has a member at t in every round set.
-    meets-held : (a : Members) (at : ℕ → ℕ) (t : ℕ) → q .round a ≡ true → held at t ≡ true → (c : ℕ) × (c < q .size) × (a c ≡ true) × (t ≤ at c)
+    meets-held : (a : Members) (at : ℕ → ℕ) (t : ℕ) → q .round a ≡ true → held at t ≡ true
+        → (c : ℕ) × (c < q .size) × (a c ≡ true) × (t ≤ at c)
     unfolding held
     meets-held a at t r h =
         let m = law .meets a (λ c. leb t (at c)) r h in
         (m .0, m .1, m .2, leb-true t (at (m .0)) (m .3))
 
-    pub not-held : (a : Members) (at : ℕ → ℕ) (t : ℕ) → q .round a ≡ true → ((c : ℕ) → a c ≡ true → at c < t) → held at t ≡ false
+    pub not-held : (a : Members) (at : ℕ → ℕ) (t : ℕ) → q .round a ≡ true → ((c : ℕ) → a c ≡ true → at c < t)
+        → held at t ≡ false
     not-held a at t r u = elim (cases-bool (held at t)) [
       | inl h ↦ let m = meets-held a at t r h in let l = u (m .0) (m .2) in let k = m .3 in absurd (omega arith)
       | inr h ↦ h
@@ -70,7 +74,8 @@ module _ (q : Rule) where
     round-some a r = let m = law .meets a everyone r (law .holds everyone everyone-round) in (m .0, m .2)
 
     pub held-low : (at : ℕ → ℕ) (t last : ℕ) → ((c : ℕ) → at c ≤ last) → held at t ≡ true → t ≤ last
-    held-low at t last low h = let m = meets-held everyone at t everyone-round h in let l = low (m .0) in let k = m .3 in omega arith
+    held-low at t last low h =
+        let m = meets-held everyone at t everyone-round h in let l = low (m .0) in let k = m .3 in omega arith
 
 -- An operation. Stage 0: not begun; 1: begun; 2: its stamp, the aim, is settled; 3: finished. snap has the replicas' stamps
 -- when it began.
@@ -112,7 +117,15 @@ pub record Onward (o p : Op) : Type 0 where
   pub same-ended : 3 ≤ o .stage → p .ended ≡ o .ended
 
 pub onward-same : (o : Op) → Onward o o
-onward-same o = record { stage-up = omega arith; same-begun = λ _. refl; same-owner = λ _. refl; same-reading = λ _. refl; same-snap = λ _. refl; same-aim = λ _. refl; same-ended = λ _. refl }
+onward-same o = record {
+  stage-up = omega arith;
+  same-begun = λ _. refl;
+  same-owner = λ _. refl;
+  same-reading = λ _. refl;
+  same-snap = λ _. refl;
+  same-aim = λ _. refl;
+  same-ended = λ _. refl;
+}
 
 module _ (q : Rule) {F : Type 0} where
   -- World v is world w later.
@@ -132,7 +145,8 @@ module _ (q : Rule) {F : Type 0} where
     pub counted : 1 ≤ o .stage → j ≤ w .count
     pub in-past : 1 ≤ o .stage → o .begun ≤ w .now
     pub grown : 1 ≤ o .stage → (c : ℕ) → o .snap c ≤ w .at c
-    pub fresh-since : 1 ≤ o .stage → (t : ℕ) → held q (o .snap) t ≡ false → held q (w .at) t ≡ true → o .begun ≤ w .since t
+    pub fresh-since : 1 ≤ o .stage → (t : ℕ) → held q (o .snap) t ≡ false → held q (w .at) t ≡ true
+        → o .begun ≤ w .since t
     pub write-settled : 1 ≤ o .stage → o .reading ≡ false → 2 ≤ o .stage
     pub aim-written : 2 ≤ o .stage → Written w (o .aim)
     pub read-aim : 2 ≤ o .stage → o .reading ≡ true → (t : ℕ) → o .aim < t → held q (o .snap) t ≡ false
