@@ -56,7 +56,10 @@ module _ {F : Type 0} (q : Rule) (R : ℕ) (law : Lawful q) (start : F) (w : Wor
       (law .round-more (working q s) (bits got)
       (λ k l i. elim (e .due k l (awake k i)) [
         | inr y ↦ y
-        | inl y ↦ elim y [ inl z ↦ absurd (no-request a k (awake k i) (z .what) (z .there) (z .is)) | inr z ↦ absurd (none k z) ]
+        | inl y ↦ elim y [
+          | inl z ↦ absurd (no-request a k (awake k i) (z .what) (z .there) (z .is))
+          | inr z ↦ absurd (none k z)
+        ]
       ]) enough)
 
   module _ (works : halted s ((w .ops j) .owner) ≡ false) where
@@ -64,7 +67,8 @@ module _ {F : Type 0} (q : Rule) (R : ℕ) (law : Lawful q) (start : F) (w : Wor
         → ⊥
     write-over e =
         exchange-over MessageKind.Put MessageKind.PutAck _ e
-        (λ c z. no-answer works (z .what) (z .there) (z .is .operation-is) (says-of MessageKind.PutAck (z .what) (z .there) (z .is .kind-is) .to-owner))
+        (λ c z. no-answer works (z .what) (z .there) (z .is .operation-is)
+        (says-of MessageKind.PutAck (z .what) (z .there) (z .is .kind-is) .to-owner))
 
     relay-over : (r got : ℕ) → RelayLive q (s .start) j R (s .marks) (s .replicas) (s .messages) r got → ⊥
     relay-over r got y =
@@ -75,7 +79,10 @@ module _ {F : Type 0} (q : Rule) (R : ℕ) (law : Lawful q) (start : F) (w : Wor
             → Awake (s .start) (s .replicas) i → Noted R (s .marks) j r c i
         noted c i l k a b = elim (y .asked c l a) [
           | inl z ↦ absurd (no-request MessageKind.Fan c a (z .what) (z .there) (z .is))
-          | inr f ↦ elim (f i k b) [ inr z ↦ z | inl z ↦ absurd (no-request MessageKind.Relay i b (z .what) (z .there) (z .is)) ]
+          | inr f ↦ elim (f i k b) [
+            | inr z ↦ z
+            | inl z ↦ absurd (no-request MessageKind.Relay i b (z .what) (z .there) (z .is))
+          ]
         ]
 
         heard : (i : ℕ) → i < q .size → Awake (s .start) (s .replicas) i → bits got i ≡ true
@@ -93,10 +100,12 @@ module _ {F : Type 0} (q : Rule) (R : ℕ) (law : Lawful q) (start : F) (w : Wor
     read-over r Phase.Idle got y = y
     read-over r Phase.First got y =
         exchange-over MessageKind.Query MessageKind.Have got y
-        (λ c z. no-answer works (z .what) (z .there) (z .is .operation-is) (says-of MessageKind.Have (z .what) (z .there) (z .is .kind-is) .to-owner))
+        (λ c z. no-answer works (z .what) (z .there) (z .is .operation-is)
+        (says-of MessageKind.Have (z .what) (z .there) (z .is .kind-is) .to-owner))
     read-over r Phase.Second got y =
         exchange-over MessageKind.Back MessageKind.BackAck got y
-        (λ c z. no-answer works (z .what) (z .there) (z .is .operation-is) (says-of MessageKind.BackAck (z .what) (z .there) (z .is .kind-is) .to-owner))
+        (λ c z. no-answer works (z .what) (z .there) (z .is .operation-is)
+        (says-of MessageKind.BackAck (z .what) (z .there) (z .is .kind-is) .to-owner))
     read-over r Phase.Relay got y = relay-over r got y
 
   -- The owner is not at operation j any more.
@@ -104,10 +113,12 @@ module _ {F : Type 0} (q : Rule) (R : ℕ) (law : Lawful q) (start : F) (w : Wor
       → ⊥
   not-at-it Party.Writer e k b l =
       write-over (subst (λ p. halted s p ≡ false) (sym e) k)
-      (x .writer-live (subst (λ p. current (s .start) (s .writer .operation) (s .readers) p ≡ j) e (g .at-work j .busy b l)) k)
+      (x .writer-live
+      (subst (λ p. current (s .start) (s .writer .operation) (s .readers) p ≡ j) e (g .at-work j .busy b l)) k)
   not-at-it (Party.Reader r) e k b l =
       read-over (subst (λ p. halted s p ≡ false) (sym e) k) r _ _
-      (x .reader-live r (subst (λ p. current (s .start) (s .writer .operation) (s .readers) p ≡ j) e (g .at-work j .busy b l)) k)
+      (x .reader-live r
+      (subst (λ p. current (s .start) (s .writer .operation) (s .readers) p ≡ j) e (g .at-work j .busy b l)) k)
   not-at-it (Party.Replica c) e k b l =
       let z = subst (λ p. current (s .start) (s .writer .operation) (s .readers) p ≡ j) e (g .at-work j .busy b l) in
       omega (arith, z, g .core .op j .named b)

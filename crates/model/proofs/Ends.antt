@@ -51,7 +51,8 @@ module _ {F : Type 0} (q : Rule) (R : ℕ) (law : Lawful q) (start : F) (w : Wor
         → InPhase q (changed w j o) k ((getD (set (s .readers) r d) k (new-reader (s .start))) .phase) (getD (set (s .readers) r d) k (new-reader (s .start)))
     readers-changed r d e x =
         each-set (λ k y. InPhase q (changed w j o) k (y .phase) y) (s .readers) r d _ x (λ _. tt)
-        (λ k n. phase-later q R start w (changed w j o) (later-changed q law w j o on) k (still-changed (Party.Reader k) (λ c. n (omega (arith, ap code c, ap code e)))) _ _ (g .readers k))
+        (λ k n. phase-later q R start w (changed w j o) (later-changed q law w j o on) k
+        (still-changed (Party.Reader k) (λ c. n (omega (arith, ap code c, ap code e)))) _ _ (g .readers k))
 
     pub writer-changed : (r : ℕ) → (w .ops j) .owner ≡ Party.Reader r
         → Writing (changed w j o) (s .writer .operation) (s .writer .acknowledgers)
@@ -104,13 +105,15 @@ module _ {F : Type 0} (q : Rule) (R : ℕ) (law : Lawful q) (start : F) (w : Wor
                 let nj = g .core .op j .named born in
                 each-set (λ k y. k ≡ pred i → LineGood v₃ (w .ops i) y) (s .journal) (pred j) nl _
                 (λ e. absurd (n (omega arith))) (λ u. absurd (omega (arith, in-book)))
-                (λ k _ e. subst (λ k. LineGood v₃ (w .ops i) (getD (s .journal) k (no-line (s .start)))) (sym e) (line-later q R start w v₃ up₃ (g .core) i (line s i) (g .lines i)))
+                (λ k _ e. subst (λ k. LineGood v₃ (w .ops i) (getD (s .journal) k (no-line (s .start)))) (sym e)
+                (line-later q R start w v₃ up₃ (g .core) i (line s i) (g .lines i)))
                 (pred i) refl
           ])
 
       module _ (d : List (Reader F)) (wr : Writer) (same-last : wr .last ≡ s .writer .last)
           (free : current (s .start) (wr .operation) d ((w .ops j) .owner) ≡ 0)
-          (others : (p : Party) → ((w .ops j) .owner ≡ p → ⊥) → current (s .start) (wr .operation) d p ≡ current (s .start) (s .writer .operation) (s .readers) p)
+          (others : (p : Party) → ((w .ops j) .owner ≡ p → ⊥) → current (s .start) (wr .operation) d p ≡ current
+          (s .start) (s .writer .operation) (s .readers) p)
           (apart : (p : Party) → ((w .ops j) .owner ≡ p) ⊎ ((w .ops j) .owner ≡ p → ⊥)) where
         work₃ : (i : ℕ) → AtWork (s .start) (wr .operation) d i (v₃ .ops i)
         work₃ = put-each (λ i o. AtWork (s .start) (wr .operation) d i o) (w .ops) j E
@@ -163,18 +166,26 @@ module _ {F : Type 0} (q : Rule) (R : ℕ) (law : Lawful q) (start : F) (w : Wor
               at-work = work₃;
               told = record {
                 answers = subst (Answers v₃ (length h) (ev .call) (ev .sent)) (sym reply-is)
-                    (record { stage-is = omega (arith, ap (λ y. y .stage) here); ended-is = ap (λ y. y .ended) here ∙ g .now-is; aim-is = ap (λ y. y .aim) here ∙ sym rank-is; value-is = ap (λ y. w .value (y .aim)) here ∙ sym value-is });
+                    (record {
+                      stage-is = omega (arith, ap (λ y. y .stage) here);
+                      ended-is = ap (λ y. y .ended) here ∙ g .now-is;
+                      aim-is = ap (λ y. y .aim) here ∙ sym rank-is;
+                      value-is = ap (λ y. w .value (y .aim)) here ∙ sym value-is;
+                    });
                 sent-says = subst (All (λ a. Says q R v₃ (a .kind) a)) (sym no-sent) tt;
               };
               begun =
                   put-each
-                  (λ i o. 1 ≤ o .stage → (1 ≤ (w .ops i) .stage) ⊎ ((o .begun ≡ length h) × (ev .reply ≡ Reply.Started i)))
+                  (λ i o. 1 ≤ o .stage → (1 ≤ (w .ops i) .stage) ⊎
+                  ((o .begun ≡ length h) × (ev .reply ≡ Reply.Started i)))
                   (w .ops) j E (λ _. inl born) (λ i _ l. inl l);
               ended =
                   put-each
-                  (λ i o. 3 ≤ o .stage → (3 ≤ (w .ops i) .stage) ⊎ ((o .ended ≡ length h) × Closes ev i (w .value (o .aim))))
+                  (λ i o. 3 ≤ o .stage → (3 ≤ (w .ops i) .stage) ⊎
+                  ((o .ended ≡ length h) × Closes ev i (w .value (o .aim))))
                   (w .ops) j E
-                  (λ _. inr (g .now-is, (place, sent, exchanges, call-is, reply-is ∙ ap (λ y. Reply.Finished j (y .stamp) (y .figure) sent exchanges) value-is)))
+                  (λ _. inr
+                  (g .now-is, (place, sent, exchanges, call-is, reply-is ∙ ap (λ y. Reply.Finished j (y .stamp) (y .figure) sent exchanges) value-is)))
                   (λ i _ l. inl l);
             })
 
@@ -182,7 +193,8 @@ module _ {F : Type 0} (q : Rule) (R : ℕ) (law : Lawful q) (start : F) (w : Wor
   module _ (j r : ℕ) (owner-is : (w .ops j) .owner ≡ Party.Reader r) (d : Reader F) (freed : d .operation ≡ 0) where
     pub free-reader : current (s .start) (s .writer .operation) (set (s .readers) r d) ((w .ops j) .owner) ≡ 0
     free-reader = subst (λ p. current (s .start) (s .writer .operation) (set (s .readers) r d) p ≡ 0) (sym owner-is)
-        (each-set (λ k y. k ≡ r → y .operation ≡ 0) (s .readers) r d (new-reader (s .start)) (λ _. freed) (λ _ _. refl) (λ k n e. absurd (n e)) r refl)
+        (each-set (λ k y. k ≡ r → y .operation ≡ 0) (s .readers) r d (new-reader (s .start)) (λ _. freed)
+        (λ _ _. refl) (λ k n e. absurd (n e)) r refl)
 
     pub other-readers : (p : Party) → ((w .ops j) .owner ≡ p → ⊥)
         → current (s .start) (s .writer .operation) (set (s .readers) r d) p ≡ current (s .start) (s .writer .operation) (s .readers) p

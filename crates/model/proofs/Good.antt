@@ -503,7 +503,8 @@ module _ {F : Type 0} where
               let k : shown v j ≡ shown w j = ap (v .value) a ∙ up .same-value ((w .ops j) .aim)
               (g .core .op j .aim-written (omega arith) .low) in
               rw (up .ops-up j .same-ended o)
-              (subst (Finishes (h ++ e ∷ []) ((w .ops j) .ended) j) (sym k) (b .0, b .1, b .2, b .3, at-old h e ((w .ops j) .ended) (b .0) (b .4), b .5, b .6))
+              (subst (Finishes (h ++ e ∷ []) ((w .ops j) .ended) j) (sym k)
+              (b .0, b .1, b .2, b .3, at-old h e ((w .ops j) .ended) (b .0) (b .4), b .5, b .6))
           | inr d ↦ rw (d .0) (closed-at (h ++ e ∷ []) (length h) e j (shown v j) (at-new h e) (d .1))
         ];
       }

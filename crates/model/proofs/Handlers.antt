@@ -116,7 +116,10 @@ module _ {F : Type 0} where
     }
       where
         none-of : (n k : ℕ) → only-for n k (rule .size * 0) ≡ 0
-        none-of n k = elim (cases-eq k n) [ inl u ↦ omega (arith, only-same n k (rule .size * 0) u) | inr u ↦ only-other n k (rule .size * 0) u ]
+        none-of n k = elim (cases-eq k n) [
+          | inl u ↦ omega (arith, only-same n k (rule .size * 0) u)
+          | inr u ↦ only-other n k (rule .size * 0) u
+        ]
 
     put-ack-handled : Handled rule s m (on-put-ack rule s m)
     unfolding on-put-ack of-operation load
@@ -209,7 +212,8 @@ module _ {F : Type 0} where
     reply-handled =
         let r : ℕ = index (m .receiver) in
         cond-both (counts in-relay (reader s r) m) _ _ (Handled rule s m)
-        (λ _. last-handled r (lowered (reader s r) (index (m .sender)) (carried m)) 3 (λ n. lowered-pending n (reader s r) (index (m .sender)) (carried m)))
+        (λ _. last-handled r (lowered (reader s r) (index (m .sender)) (carried m)) 3
+        (λ n. lowered-pending n (reader s r) (index (m .sender)) (carried m)))
         (λ _. quiet-handled)
 
     -- HAVE
@@ -219,7 +223,8 @@ module _ {F : Type 0} where
     unfolding heard
     heard-same d c x =
         cond-both (ltb (rank (d .«best_stamp»)) (rank (x .stamp))) _ _ Same (λ _. (refl, refl))
-        (λ _. cond-both (eqb (rank (d .«best_stamp»)) (rank (x .stamp))) _ _ Same (λ _. (refl, refl)) (λ _. (refl, refl)))
+        (λ _. cond-both (eqb (rank (d .«best_stamp»)) (rank (x .stamp))) _ _ Same (λ _. (refl, refl))
+        (λ _. (refl, refl)))
       where
         Same : Reader F → Type 0
         Same y = (y .operation ≡ d .operation) × (y .phase ≡ d .phase)
@@ -276,13 +281,21 @@ module _ {F : Type 0} where
                 (pending (rule .size) n (getD (s .readers) (index ((line s n) .owner)) (new-reader (s .start)))) 0
                 kind-is in
                 let after = cond-true (is-round-read ((line s n) .kind))
-                (pending (rule .size) n (getD (set (s .readers) r (placing d)) (index ((line s n) .owner)) (new-reader (s .start))))
+                (pending (rule .size) n
+                (getD (set (s .readers) r (placing d)) (index ((line s n) .owner)) (new-reader (s .start))))
                 0 kind-is in
                 let rest = ap
-                (λ (w : ℕ). cond (is-relay-read ((line s n) .kind)) (unreplied n w (index ((line s n) .owner)) (rule .size) (s .marks)) 0)
+                (λ (w : ℕ). cond (is-relay-read ((line s n) .kind))
+                (unreplied n w (index ((line s n) .owner)) (rule .size) (s .marks)) 0)
                 (length-set (s .readers) r (placing d)) in
-                omega
-                (arith, zero-placing n, same n, only-same n (d .operation) (rule .size) u, only-same n (d .operation) (rule .size * 1) u)
+                omega (
+                  arith,
+                  zero-placing n,
+                  same n,
+                  only-same n (d .operation) (rule .size) u,
+                  only-same n (d .operation)
+                      (rule .size * 1) u,
+                )
             | inr u ↦
                 let below = reader-below r (placing d) n (omega (arith, zero-placing n)) in
                 omega
@@ -331,7 +344,8 @@ module _ {F : Type 0} where
         let h = heard-same d c (carried m) in
         let op : d .operation ≡ m .operation = eqb-true (d .operation) (m .operation) (v .0) in
         after-have-handled r (heard d c (carried m)) inside (h .0 ∙ op)
-        (λ n. ap (λ k. cond (eqb k n && in-first ((heard d c (carried m)) .phase)) (2 * rule .size) 0) (h .0) ∙ ap (λ p. cond (eqb (d .operation) n && in-first p) (2 * rule .size) 0) (h .1))
+        (λ n. ap (λ k. cond (eqb k n && in-first ((heard d c (carried m)) .phase)) (2 * rule .size) 0) (h .0) ∙ ap
+        (λ p. cond (eqb (d .operation) n && in-first p) (2 * rule .size) 0) (h .1))
         (ap in-first (h .1) ∙ v .1) round (ap (λ k. index ((line s k) .owner)) (sym op) ∙ own-line r d place (v .1)))
         (λ _. quiet-handled)
 
@@ -351,7 +365,8 @@ module _ {F : Type 0} where
           reserve-below _ _
           (pending (rule .size) n (getD (s .readers) (index ((line s n) .owner)) (new-reader (s .start)))) _ _ _
           (omega arith)
-          (unreplied-below n (length (s .readers)) (index ((line s n) .owner)) (rule .size) (s .marks) (mark-place s c r) k h)
+          (unreplied-below n (length (s .readers)) (index ((line s n) .owner)) (rule .size) (s .marks)
+          (mark-place s c r) k h)
 
       mark-handled : ((n : ℕ) → unanswered n k ≤ unanswered n (mark s c r))
           → Handled rule s m (quiet (with-mark (with-held s c x) c r k))
@@ -384,7 +399,8 @@ module _ {F : Type 0} where
             let before = cond-true (is-relay-read ((line s n) .kind))
             (unreplied n (length (s .readers)) (index ((line s n) .owner)) (rule .size) (s .marks)) 0 kind-is in
             let after = cond-true (is-relay-read ((line s n) .kind))
-            (unreplied n (length (s .readers)) (index ((line s n) .owner)) (rule .size) (set (s .marks) (mark-place s c r) k))
+            (unreplied n (length (s .readers)) (index ((line s n) .owner)) (rule .size)
+            (set (s .marks) (mark-place s c r) k))
             0 kind-is in
             let before-r = ap (λ (q : ℕ). unreplied n (length (s .readers)) q (rule .size) (s .marks)) owner-of in
             let after-r = ap
@@ -472,7 +488,8 @@ module _ {F : Type 0} where
         let inside = reader-in (m .receiver)
         ((and-parts (a-replica rule (m .sender)) (a-reader s (m .receiver)) to) .1) in
         have-handled inside
-        ((and-parts (is-round-read ((line s (m .operation)) .kind)) (owned s ((line s (m .operation)) .kind) ((line s (m .operation)) .owner)) b) .0)
+        ((and-parts (is-round-read ((line s (m .operation)) .kind)) (owned s ((line s (m .operation)) .kind) ((line s (m .operation)) .owner)) b)
+        .0)
         (p (index (m .receiver)) inside)
     on-handled MessageKind.Back e to b p shape = offer-handled MessageKind.BackAck (ap (weight (rule .size)) e) refl
     on-handled MessageKind.BackAck e to b p shape = back-ack-handled

@@ -49,7 +49,8 @@ module _ {F : Type 0} (q : Rule) (R : ℕ) (law : Lawful q) (start : F) (w : Wor
         (each-set-all (λ k y. y .operation ≡ (reader s k) .operation) (s .readers) r d _ same-op (λ k. refl))
         (g .at-is)
         (old-figures q R law start w s h g) (old-messages q R law start w s h g)
-        (each-set-all (λ k y. InPhase q (ticked w) k (y .phase) y) (s .readers) r d _ x (old-reader q R law start w s h g))
+        (each-set-all (λ k y. InPhase q (ticked w) k (y .phase) y) (s .readers) r d _ x
+        (old-reader q R law start w s h g))
         (old-writer q R law start w s h g);
   }
 
@@ -104,7 +105,8 @@ module _ {F : Type 0} (q : Rule) (R : ℕ) (law : Lawful q) (start : F) (w : Wor
           → current (s .start) (s .writer .operation) ds p ≡ current (s .start) (s .writer .operation) (s .readers) p
       same-ops =
           same-current (s .start) _ _ (s .readers) ds refl
-          (each-set-all (λ k y. y .operation ≡ (reader s k) .operation) (s .readers) r (placing d) _ same-op (λ k. refl))
+          (each-set-all (λ k y. y .operation ≡ (reader s k) .operation) (s .readers) r (placing d) _ same-op
+          (λ k. refl))
 
       abbrev goes : Effect F
       goes = sending (with-reader s r (placing d)) (to-all (q .size) MessageKind.Back j (Party.Reader r) (best d))
@@ -115,7 +117,8 @@ module _ {F : Type 0} (q : Rule) (R : ℕ) (law : Lawful q) (start : F) (w : Wor
         good = advance q R start w v₄ up₄ s _ h _ g (record {
           core =
               core-changed q law w j o₄ on₄
-              (good-settled q law w (g .core) j (rank (d .«best_stamp»)) (x .stage-is) (x .reads) (x .true-figure .written) (above-best b))
+              (good-settled q law w (g .core) j (rank (d .«best_stamp»)) (x .stage-is) (x .reads)
+              (x .true-figure .written) (above-best b))
               (g .core);
           start-is = g .start-is;
           now-is = refl;
@@ -144,15 +147,18 @@ module _ {F : Type 0} (q : Rule) (R : ℕ) (law : Lawful q) (start : F) (w : Wor
             answers = tt;
             sent-says =
                 all-to-all MessageKind.Back j (Party.Reader r) (best d) (λ m. Says q R v₄ (m .kind) m) (q .size)
-                (λ c l. record { settled = omega (arith, ap (λ y. y .stage) here); aims = sym (ap (λ y. y .aim) here); true-figure = true-later q R start w v₄ up₄ (x .true-figure); to-low = l });
+                (λ c l. record
+                { settled = omega (arith, ap (λ y. y .stage) here); aims = sym (ap (λ y. y .aim) here); true-figure = true-later q R start w v₄ up₄ (x .true-figure); to-low = l });
           };
           begun =
               put-each
-              (λ i o. 1 ≤ o .stage → (1 ≤ (w .ops i) .stage) ⊎ ((o .begun ≡ length h) × (_≡_ {A = Reply F} Reply.Done (Reply.Started i))))
+              (λ i o. 1 ≤ o .stage → (1 ≤ (w .ops i) .stage) ⊎
+              ((o .begun ≡ length h) × (_≡_ {A = Reply F} Reply.Done (Reply.Started i))))
               (w .ops) j o₄ (λ _. inl (omega (arith, x .stage-is))) (λ i _ l. inl l);
           ended =
               put-each
-              (λ i o. 3 ≤ o .stage → (3 ≤ (w .ops i) .stage) ⊎ ((o .ended ≡ length h) × Closes (delivery place taken goes) i (w .value (o .aim))))
+              (λ i o. 3 ≤ o .stage → (3 ≤ (w .ops i) .stage) ⊎
+              ((o .ended ≡ length h) × Closes (delivery place taken goes) i (w .value (o .aim))))
               (w .ops) j o₄ (λ l. absurd (omega arith)) (λ i _ l. inl l);
         });
       }
@@ -163,7 +169,8 @@ module _ {F : Type 0} (q : Rule) (R : ℕ) (law : Lawful q) (start : F) (w : Wor
         (λ b. cond-both (is-quick ((line s (d .operation)) .kind) && q .hold (bits (d .holders))) _ _ K
         (λ k. first-ends b (and-parts (is-quick ((line s (d .operation)) .kind)) (q .hold (bits (d .holders))) k .1))
         (λ _. settles b))
-        (λ _. waits r d same-op (of-first q (ticked w) r (d .phase) d e (phase-later q R start w (ticked w) (later-ticked q law w) r (λ i b c. refl) Phase.First d x)))
+        (λ _. waits r d same-op
+        (of-first q (ticked w) r (d .phase) d e (phase-later q R start w (ticked w) (later-ticked q law w) r (λ i b c. refl) Phase.First d x)))
 
   have-at : (m : Message F) (r : ℕ) (d : Reader F) → d .operation ≡ (reader s r) .operation
       → InPhase q w r (d .phase) d → Report w m → K (on-have-at q s m r d)
@@ -174,7 +181,8 @@ module _ {F : Type 0} (q : Rule) (R : ℕ) (law : Lawful q) (start : F) (w : Wor
       let i = c .operation-is in
       let y = hearing-heard d (index (m .sender)) (carried m) in
       after r (heard d (index (m .sender)) (carried m))
-      (hears w r d (index (m .sender)) (carried m) (to-first q w r (d .phase) d (c .phase-is) x) (rw i (p .fresh)) (p .grown) (p .true-figure))
+      (hears w r d (index (m .sender)) (carried m) (to-first q w r (d .phase) d (c .phase-is) x) (rw i (p .fresh))
+      (p .grown) (p .true-figure))
       (ap in-first (y .phase-is) ∙ c .phase-is) (y .operation-is ∙ same-op))
       (λ _. kept-quiet q R law start w s h g place taken)
 
@@ -197,7 +205,8 @@ module _ {F : Type 0} (q : Rule) (R : ℕ) (law : Lawful q) (start : F) (w : Wor
     after-ack : K (after-last q s r d 4)
     after-ack =
         cond-both (q .round (bits (d .replies))) _ _ K second-ends
-        (λ _. waits r d same-op (of-second q (ticked w) r (d .phase) d e (phase-later q R start w (ticked w) (later-ticked q law w) r (λ i b c. refl) Phase.Second d x)))
+        (λ _. waits r d same-op
+        (of-second q (ticked w) r (d .phase) d e (phase-later q R start w (ticked w) (later-ticked q law w) r (λ i b c. refl) Phase.Second d x)))
 
   confirms : (r : ℕ) (d : Reader F) (c : ℕ) → Second w r d → (w .ops (d .operation)) .aim ≤ w .at c
       → Second w r (confirmed d c)
@@ -207,7 +216,10 @@ module _ {F : Type 0} (q : Rule) (R : ℕ) (law : Lawful q) (start : F) (w : Wor
     reads = x .reads;
     true-figure = x .true-figure;
     aims = x .aims;
-    placed = λ k m. elim (joined-cases (d .replies) c k m) [ inl i ↦ rw i (omega (arith, x .aims)) | inr o ↦ x .placed k o ];
+    placed = λ k m. elim (joined-cases (d .replies) c k m) [
+      | inl i ↦ rw i (omega (arith, x .aims))
+      | inr o ↦ x .placed k o
+    ];
   }
 
   ack-at : (m : Message F) (r : ℕ) (d : Reader F) → d .operation ≡ (reader s r) .operation

@@ -33,7 +33,10 @@ true-some p zero k l e = ap p (sym (zero-is k l)) ∙ e
   where
     zero-is : (k : ℕ) → k ≤ zero → k ≡ zero
     zero-is k l = omega arith
-true-some p (suc n) k l e = elim (cases-eq k (suc n)) [ inl d ↦ or-left (p (suc n)) (some p n) (ap p (sym d) ∙ e) | inr d ↦ or-right (p (suc n)) (some p n) (true-some p n k (omega arith) e) ]
+true-some p (suc n) k l e = elim (cases-eq k (suc n)) [
+  | inl d ↦ or-left (p (suc n)) (some p n) (ap p (sym d) ∙ e)
+  | inr d ↦ or-right (p (suc n)) (some p n) (true-some p n k (omega arith) e)
+]
 
 abbrev late : Bool → ℕ
 late true = 1
@@ -94,7 +97,10 @@ module _ {F : Type 0} (q : Rule) (R : ℕ) (law : Lawful q) (start : F) (w : Wor
         record {
           settled = g .core .op j .write-settled (leb-true 1 ((op j) .stage) (b .0)) r;
           held-aim = subst (λ t. held q (w .at) t ≡ true) (k .2) (g .core .op (i .0) .kept (k .0));
-          why = elim (cases-lt ((op j) .stage) 3) [ inl z ↦ inr (omega arith, r, (i .0, k .0, k .1, k .2)) | inr z ↦ inl z ];
+          why = elim (cases-lt ((op j) .stage) 3) [
+            | inl z ↦ inr (omega arith, r, (i .0, k .0, k .1, k .2))
+            | inr z ↦ inl z
+          ];
         }
   ]
 
@@ -108,7 +114,8 @@ module _ {F : Type 0} (q : Rule) (R : ℕ) (law : Lawful q) (start : F) (w : Wor
       (and-from (leb 1 ((op j) .stage)) _ (le-leb 1 ((op j) .stage) b)
       (and-from (not ((op j) .reading)) _ (not-from-false ((op j) .reading) r)
       (true-some (answers ((op j) .aim)) (w .count) i (g .core .op i .counted (omega arith))
-      (and-from (leb 3 ((op i) .stage)) _ (le-leb 3 ((op i) .stage) l) (and-from ((op i) .reading) _ x (eq-eqb ((op i) .aim) ((op j) .aim) a))))))
+      (and-from (leb 3 ((op i) .stage)) _ (le-leb 3 ((op i) .stage) l)
+      (and-from ((op i) .reading) _ x (eq-eqb ((op i) .aim) ((op j) .aim) a))))))
 
   in-row : (j : ℕ) → In j row → Kept j
   unfolding row
@@ -149,8 +156,16 @@ module _ {F : Type 0} (q : Rule) (R : ℕ) (law : Lawful q) (start : F) (w : Wor
       | inl l ↦
           let u = g .core .op y .read-aim (ky .settled) b ((op x) .aim) l in
           let f = g .core .op y .fresh-since (omega (arith, ky .settled)) ((op x) .aim) u (kx .held-aim) in
-          omega
-          (arith, le .points, le .ranks, late-false x a, late-true y b, f, g .core .paced ((op y) .aim) ((op x) .aim) (omega arith) (kx .held-aim))
+          omega (
+            arith,
+            le .points,
+            le .ranks,
+            late-false x a,
+            late-true y b,
+            f,
+            g .core .paced ((op y) .aim) ((op x) .aim)
+                (omega arith) (kx .held-aim),
+          )
     ]
 
     read-write : (op x) .reading ≡ true → (op y) .reading ≡ false → (op x) .aim < (op y) .aim
@@ -203,7 +218,8 @@ module _ {F : Type 0} (q : Rule) (R : ℕ) (law : Lawful q) (start : F) (w : Wor
   plays = subst (λ y. Plays h y row) (g .first-value)
       (row-plays reads-of aim-of h (w .value) 0 row ready
       (λ n i r. writes q R law start w s h g n (omega (arith, in-row n i .settled)) r)
-      (λ n i r. elim (in-row n i .why) [ inl l ↦ shows q R law start w s h g n l r | inr f ↦ absurd (both-ways ((op n) .reading) (f .1) r) ]))
+      (λ n i r. elim (in-row n i .why)
+      [ inl l ↦ shows q R law start w s h g n l r | inr f ↦ absurd (both-ways ((op n) .reading) (f .1) r) ]))
 
   only : (n : ℕ) → In n row → Belongs h n
   only n i =
@@ -217,7 +233,11 @@ module _ {F : Type 0} (q : Rule) (R : ℕ) (law : Lawful q) (start : F) (w : Wor
               (
                 shown w n,
                 writes q R law start w s h g n (omega (arith, k .settled)) (r .1),
-                (j .0, subst (λ t. Shows h (j .0) (w .value t)) (j .3) (shows q R law start w s h g (j .0) (j .1) (j .2))),
+                (
+                  j .0,
+                  subst (λ t. Shows h (j .0) (w .value t)) (j .3)
+                      (shows q R law start w s h g (j .0) (j .1) (j .2)),
+                ),
               ),
             )
       ]

@@ -42,7 +42,8 @@ marks : (k : RelayMark) (n c : ℕ) → k .operation ≤ n → Marked k n c (mar
 unfolding marked
 marks k n c l =
     cond-both (ltb (k .operation) n) _ _ (Marked k n c)
-    (λ e. record { operation-is = refl; has = joined-same 0 c; keeps = λ d. absurd (omega (arith, d, ltb-true (k .operation) n e)); was-replied = λ r. absurd (both-ways false refl r) })
+    (λ e. record
+    { operation-is = refl; has = joined-same 0 c; keeps = λ d. absurd (omega (arith, d, ltb-true (k .operation) n e)); was-replied = λ r. absurd (both-ways false refl r) })
     (λ e. let d : k .operation ≡ n = omega (arith, ltb-false (k .operation) n e) in
     record
     { operation-is = d; has = joined-same (k .relayers) c; keeps = λ _. joined-old (k .relayers) c; was-replied = λ r. (d, r) })
@@ -66,8 +67,10 @@ module _ {F : Type 0} (q : Rule) (R : ℕ) (law : Lawful q) (start : F) (w : Wor
       → Live q (s .start) j R l (t₁ ++ u) (s .readers) ks (s .writer)
   relay-frame n l u a ks sk f = frame q R law start w s h g j pos x m says t₁ out l u a
       (λ _ _. no-swap q (s .start) j _ _ m MessageKind.Put MessageKind.PutAck _ (λ z. omega arith) (λ z. omega arith))
-      (λ r _ _ _. no-swap q (s .start) j _ _ m MessageKind.Query MessageKind.Have _ (λ z. omega arith) (λ z. omega arith))
-      (λ r _ _ _. no-swap q (s .start) j _ _ m MessageKind.Back MessageKind.BackAck _ (λ z. omega arith) (λ z. omega arith))
+      (λ r _ _ _. no-swap q (s .start) j _ _ m MessageKind.Query MessageKind.Have _ (λ z. omega arith)
+      (λ z. omega arith))
+      (λ r _ _ _. no-swap q (s .start) j _ _ m MessageKind.Back MessageKind.BackAck _ (λ z. omega arith)
+      (λ z. omega arith))
       ks sk f
 
   -- Replica c takes what is relayed for reader r₀.
@@ -160,14 +163,16 @@ module _ {F : Type 0} (q : Rule) (R : ℕ) (law : Lawful q) (start : F) (w : Wor
                 operation-is = ap (λ y. y .operation) z ∙ same-op ∙ mk .operation-is ∙ t .operation-is;
                 has =
                     subst (λ y. bits (y .relayers) n ≡ true) (sym z)
-                    (subst (λ y. bits y n ≡ true) (sym same-set) (subst (λ y. bits (k .relayers) y ≡ true) f (mk .has)));
+                    (subst (λ y. bits y n ≡ true) (sym same-set)
+                    (subst (λ y. bits (k .relayers) y ≡ true) f (mk .has)));
               })
 
           kept-noted : (n i : ℕ) → Noted R (s .marks) j r n i → Noted R (set (s .marks) at k′) j r n i
           kept-noted n i v =
               let z =
               seen
-              (λ i y. (mark-at R (s .marks) i r) .operation ≡ j → bits ((mark-at R (s .marks) i r) .relayers) n ≡ true → (y .operation ≡ j) × (bits (y .relayers) n ≡ true))
+              (λ i y. (mark-at R (s .marks) i r) .operation ≡ j → bits ((mark-at R (s .marks) i r) .relayers) n ≡ true
+              → (y .operation ≡ j) × (bits (y .relayers) n ≡ true))
               k′ r (reader-low r o)
               (λ d a b.
               let oa : old-mark .operation ≡ j = ap (λ y. y .operation) (old-at d) ∙ a in
@@ -190,14 +195,19 @@ module _ {F : Type 0} (q : Rule) (R : ℕ) (law : Lawful q) (start : F) (w : Wor
                 (reader-low r o) (λ _ _. rounds′) (y .rounds);
             replied =
                 seen
-                (λ i z. z .operation ≡ j → z .replied ≡ true → Awake (s .start) l i → (((mark-at R (s .marks) i r) .operation ≡ j) × ((mark-at R (s .marks) i r) .replied ≡ true)) ⊎ WaitsFrom (t₁ ++ u) MessageKind.Reply j i)
+                (λ i z. z .operation ≡ j → z .replied ≡ true → Awake (s .start) l i →
+                (((mark-at R (s .marks) i r) .operation ≡ j) × ((mark-at R (s .marks) i r) .replied ≡ true)) ⊎
+                WaitsFrom (t₁ ++ u) MessageKind.Reply j i)
                 k′ r (reader-low r o)
                 (λ d a b _.
                 let mo : m .operation ≡ j = sym (mk .operation-is) ∙ sym same-op ∙ a in
                 elim (replied′ b) [
                   | inl v ↦ let z =
-                      mk .was-replied v in inl
-                      (ap (λ y. y .operation) (sym (old-at d)) ∙ z .0 ∙ mo, ap (λ y. y .replied) (sym (old-at d)) ∙ z .1)
+                      mk .was-replied v in inl (
+                        ap (λ y. y .operation) (sym (old-at d)) ∙ z .0 ∙ mo,
+                        ap (λ y. y .replied) (sym (old-at d)) ∙ z
+                            .1,
+                      )
                   | inr v ↦ inr (record { what = v .what; there = v .there; is = record { kind-is = v .is .kind-is; operation-is = v .is .operation-is ∙ mo; sender-is = v .is .sender-is } })
                 ])
                 (λ i a b _. inl (a, b));
@@ -219,7 +229,8 @@ module _ {F : Type 0} (q : Rule) (R : ℕ) (law : Lawful q) (start : F) (w : Wor
                     (for-reader r (owner-relay q R law start w s h g j pos x m says t₁ out r o f) (t .operation-is))
                     in
                     absurd
-                    (omega (arith, ltb-true (m .operation) (old-mark .operation) b, v .low i, ap (λ z. (getD (s .marks) z new-mark) .operation) a, t .operation-is));
+                    (omega
+                    (arith, ltb-true (m .operation) (old-mark .operation) b, v .low i, ap (λ z. (getD (s .marks) z new-mark) .operation) a, t .operation-is));
                 reply = λ i t. absurd (omega (arith, ap kind-code (t .kind-is), code-is));
                 noted = λ n i z. z;
                 rounds = v .rounds;
@@ -237,13 +248,15 @@ module _ {F : Type 0} (q : Rule) (R : ℕ) (law : Lawful q) (start : F) (w : Wor
         record {
           live = relay-frame (omega (arith, code-is)) _ u aw _ (length-set (s .marks) at _)
               (λ r o k f v. turn nk le mk _ u (mark-replied nk) refl refl (λ _. refl)
-              (λ _. inr (record { what = _; there = in-right t₁ u _ (inl refl); is = record { kind-is = refl; operation-is = refl; sender-is = c-is } }))
+              (λ _. inr
+              (record { what = _; there = in-right t₁ u _ (inl refl); is = record { kind-is = refl; operation-is = refl; sender-is = c-is } }))
               r o (owner-relay q R law start w s h g j pos x m says t₁ out r o f) _ v);
         })
         (λ z. record {
           live = relay-frame (omega (arith, code-is)) _ [] aw _ (length-set (s .marks) at _)
               (λ r o k f v. turn nk le mk _ [] nk refl refl
-              (λ n. elim (and-cases (q .round (bits (nk .relayers))) (not (nk .replied)) z) [ inl a ↦ absurd (both-ways _ a n) | inr a ↦ not-false _ a ])
+              (λ n. elim (and-cases (q .round (bits (nk .relayers))) (not (nk .replied)) z)
+              [ inl a ↦ absurd (both-ways _ a n) | inr a ↦ not-false _ a ])
               (λ n. inl n)
               r o (owner-relay q R law start w s h g j pos x m says t₁ out r o f) _ v);
         }))
@@ -290,7 +303,8 @@ module _ {F : Type 0} (q : Rule) (R : ℕ) (law : Lawful q) (start : F) (w : Wor
               live-relay q (s .start) j R (s .marks) (s .replicas) (t₁ ++ []) r (y .replies) (y .phase)
               (ap in-relay (v .phase-is) ∙ f)
               (relay-carry q (s .start) j _ _ _ _ m (same q R law start w s h g j pos x m says t₁ out []) R (s .marks) (s .marks) r (d .replies) (y .replies)
-              (heard-of r (d .replies) (y .replies) (λ _. rw (v .replies-is) (joined-same (d .replies) (index (m .sender)))) z)
+              (heard-of r (d .replies) (y .replies)
+              (λ _. rw (v .replies-is) (joined-same (d .replies) (index (m .sender)))) z)
               b (λ n a. rw (v .replies-is) (joined-old (d .replies) (index (m .sender)) n a)) z));
         })
 
@@ -301,9 +315,12 @@ module _ {F : Type 0} (q : Rule) (R : ℕ) (law : Lawful q) (start : F) (w : Wor
         let c = ap kind-code e in
         reader-carry q (s .start) j _ _ _ _ m (same q R law start w s h g j pos x m says t₁ out []) R (s .marks)
         (s .marks) (index (m .receiver)) d
-        (λ _ _ _. no-swap q (s .start) j _ _ m MessageKind.Query MessageKind.Have _ (λ z. omega arith) (λ z. omega arith))
-        (λ _ _ _. no-swap q (s .start) j _ _ m MessageKind.Back MessageKind.BackAck _ (λ z. omega arith) (λ z. omega arith))
-        (λ o _ f y. heard-of (index (m .receiver)) (d .replies) (d .replies) (λ i. counts-not in-relay d m n (o ∙ sym i) f) y)
+        (λ _ _ _. no-swap q (s .start) j _ _ m MessageKind.Query MessageKind.Have _ (λ z. omega arith)
+        (λ z. omega arith))
+        (λ _ _ _. no-swap q (s .start) j _ _ m MessageKind.Back MessageKind.BackAck _ (λ z. omega arith)
+        (λ z. omega arith))
+        (λ o _ f y. heard-of (index (m .receiver)) (d .replies) (d .replies)
+        (λ i. counts-not in-relay d m n (o ∙ sym i) f) y)
         (x .reader-live (index (m .receiver)))
 
     pub reply-lives : L (on-reply q rest m)
@@ -312,5 +329,9 @@ module _ {F : Type 0} (q : Rule) (R : ℕ) (law : Lawful q) (start : F) (w : Wor
         let r = index (m .receiver) in
         let d = reader s r in
         cond-both (counts in-relay d m) _ _ L
-        (λ z. reply-after r refl d (lowered d (index (m .sender)) (carried m)) (hearing-lowered d (index (m .sender)) (carried m)) (counts-parts in-relay d m z .phase-is) (x .reader-live r))
-        (λ z. unturned q R law start w s h g j pos x m says t₁ out (p .to-owner) (λ z. omega (arith, ap kind-code e)) (λ z. omega (arith, ap kind-code e)) (λ z. omega (arith, ap kind-code e)) (λ z. omega (arith, ap kind-code e)) (λ z. omega (arith, ap kind-code e)) (reply-not z))
+        (λ z. reply-after r refl d (lowered d (index (m .sender)) (carried m))
+        (hearing-lowered d (index (m .sender)) (carried m)) (counts-parts in-relay d m z .phase-is)
+        (x .reader-live r))
+        (λ z. unturned q R law start w s h g j pos x m says t₁ out (p .to-owner) (λ z. omega (arith, ap kind-code e))
+        (λ z. omega (arith, ap kind-code e)) (λ z. omega (arith, ap kind-code e))
+        (λ z. omega (arith, ap kind-code e)) (λ z. omega (arith, ap kind-code e)) (reply-not z))

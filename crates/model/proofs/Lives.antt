@@ -211,9 +211,12 @@ module _ {F : Type 0} (q : Rule) (R : ℕ) (law : Lawful q) (start : F) (w : Wor
       let n = ap kind-code e in
       record {
         live = frame _ _ (awake-after (index (m .receiver)) _)
-            (λ _ _. answered q (s .start) j _ _ m MessageKind.Put MessageKind.PutAck _ (λ z. omega arith) (answer rest m MessageKind.PutAck (unused (s .start))) (in-right t₁ _ _ (inl refl)) refl refl refl)
-            (λ r _ _ _. no-swap q (s .start) j _ _ m MessageKind.Query MessageKind.Have _ (λ z. omega arith) (λ z. omega arith))
-            (λ r _ _ _. no-swap q (s .start) j _ _ m MessageKind.Back MessageKind.BackAck _ (λ z. omega arith) (λ z. omega arith))
+            (λ _ _. answered q (s .start) j _ _ m MessageKind.Put MessageKind.PutAck _ (λ z. omega arith)
+            (answer rest m MessageKind.PutAck (unused (s .start))) (in-right t₁ _ _ (inl refl)) refl refl refl)
+            (λ r _ _ _. no-swap q (s .start) j _ _ m MessageKind.Query MessageKind.Have _ (λ z. omega arith)
+            (λ z. omega arith))
+            (λ r _ _ _. no-swap q (s .start) j _ _ m MessageKind.Back MessageKind.BackAck _ (λ z. omega arith)
+            (λ z. omega arith))
             (s .marks) refl (low-kind (omega arith) _ _ (awake-after (index (m .receiver)) _));
       }
 
@@ -223,9 +226,12 @@ module _ {F : Type 0} (q : Rule) (R : ℕ) (law : Lawful q) (start : F) (w : Wor
       let n = ap kind-code e in
       record {
         live = frame _ _ (awake-after (index (m .receiver)) _)
-            (λ _ _. no-swap q (s .start) j _ _ m MessageKind.Put MessageKind.PutAck _ (λ z. omega arith) (λ z. omega arith))
-            (λ r _ _ _. no-swap q (s .start) j _ _ m MessageKind.Query MessageKind.Have _ (λ z. omega arith) (λ z. omega arith))
-            (λ r _ _ _. answered q (s .start) j _ _ m MessageKind.Back MessageKind.BackAck _ (λ z. omega arith) (answer rest m MessageKind.BackAck (unused (s .start))) (in-right t₁ _ _ (inl refl)) refl refl refl)
+            (λ _ _. no-swap q (s .start) j _ _ m MessageKind.Put MessageKind.PutAck _ (λ z. omega arith)
+            (λ z. omega arith))
+            (λ r _ _ _. no-swap q (s .start) j _ _ m MessageKind.Query MessageKind.Have _ (λ z. omega arith)
+            (λ z. omega arith))
+            (λ r _ _ _. answered q (s .start) j _ _ m MessageKind.Back MessageKind.BackAck _ (λ z. omega arith)
+            (answer rest m MessageKind.BackAck (unused (s .start))) (in-right t₁ _ _ (inl refl)) refl refl refl)
             (s .marks) refl (low-kind (omega arith) _ _ (awake-after (index (m .receiver)) _));
       }
 
@@ -235,9 +241,13 @@ module _ {F : Type 0} (q : Rule) (R : ℕ) (law : Lawful q) (start : F) (w : Wor
       let n = ap kind-code e in
       record {
         live = frame (s .replicas) _ (λ c k. k)
-            (λ _ _. no-swap q (s .start) j _ _ m MessageKind.Put MessageKind.PutAck _ (λ z. omega arith) (λ z. omega arith))
-            (λ r _ _ _. answered q (s .start) j _ _ m MessageKind.Query MessageKind.Have _ (λ z. omega arith) (answer rest m MessageKind.Have (held rest (index (m .receiver)))) (in-right t₁ _ _ (inl refl)) refl refl refl)
-            (λ r _ _ _. no-swap q (s .start) j _ _ m MessageKind.Back MessageKind.BackAck _ (λ z. omega arith) (λ z. omega arith))
+            (λ _ _. no-swap q (s .start) j _ _ m MessageKind.Put MessageKind.PutAck _ (λ z. omega arith)
+            (λ z. omega arith))
+            (λ r _ _ _. answered q (s .start) j _ _ m MessageKind.Query MessageKind.Have _ (λ z. omega arith)
+            (answer rest m MessageKind.Have (held rest (index (m .receiver)))) (in-right t₁ _ _ (inl refl)) refl
+            refl refl)
+            (λ r _ _ _. no-swap q (s .start) j _ _ m MessageKind.Back MessageKind.BackAck _ (λ z. omega arith)
+            (λ z. omega arith))
             (s .marks) refl (low-kind (omega arith) _ _ (λ c k. k));
       }
 
@@ -247,9 +257,12 @@ module _ {F : Type 0} (q : Rule) (R : ℕ) (law : Lawful q) (start : F) (w : Wor
       let n = ap kind-code e in
       record {
         live = frame (s .replicas) _ (λ c k. k)
-            (λ _ _. no-swap q (s .start) j _ _ m MessageKind.Put MessageKind.PutAck _ (λ z. omega arith) (λ z. omega arith))
-            (λ r _ _ _. no-swap q (s .start) j _ _ m MessageKind.Query MessageKind.Have _ (λ z. omega arith) (λ z. omega arith))
-            (λ r _ _ _. no-swap q (s .start) j _ _ m MessageKind.Back MessageKind.BackAck _ (λ z. omega arith) (λ z. omega arith))
+            (λ _ _. no-swap q (s .start) j _ _ m MessageKind.Put MessageKind.PutAck _ (λ z. omega arith)
+            (λ z. omega arith))
+            (λ r _ _ _. no-swap q (s .start) j _ _ m MessageKind.Query MessageKind.Have _ (λ z. omega arith)
+            (λ z. omega arith))
+            (λ r _ _ _. no-swap q (s .start) j _ _ m MessageKind.Back MessageKind.BackAck _ (λ z. omega arith)
+            (λ z. omega arith))
             (s .marks) refl
             (λ r o k f y. record {
               fan = λ c i _. inr (λ b l _. inl
@@ -280,8 +293,10 @@ module _ {F : Type 0} (q : Rule) (R : ℕ) (law : Lawful q) (start : F) (w : Wor
         let n = ap kind-code e in
         reader-carry q (s .start) j (s .replicas) (s .messages) (s .replicas) (t₁ ++ []) m (same []) R (s .marks)
         (s .marks) r (reader s r)
-        (λ _ _ _. no-swap q (s .start) j _ _ m MessageKind.Query MessageKind.Have _ (λ z. omega arith) (λ z. omega arith))
-        (λ _ _ _. no-swap q (s .start) j _ _ m MessageKind.Back MessageKind.BackAck _ (λ z. omega arith) (λ z. omega arith))
+        (λ _ _ _. no-swap q (s .start) j _ _ m MessageKind.Query MessageKind.Have _ (λ z. omega arith)
+        (λ z. omega arith))
+        (λ _ _ _. no-swap q (s .start) j _ _ m MessageKind.Back MessageKind.BackAck _ (λ z. omega arith)
+        (λ z. omega arith))
         (low-kind (omega arith) (s .replicas) [] (λ c k. k) r) (x .reader-live r)
 
     pub put-ack-lives : L (on-put-ack q rest m)
@@ -294,18 +309,21 @@ module _ {F : Type 0} (q : Rule) (R : ℕ) (law : Lawful q) (start : F) (w : Wor
             sized-marks = x .sized-marks;
             reader-live = ack-readers;
             writer-live = writer-carry q (s .start) j _ _ _ _ m (same []) (s .writer)
-                (λ o k. counted q (s .start) j _ _ m MessageKind.Put MessageKind.PutAck _ (λ z. omega arith) (λ i. absurd (eqb-false (s .writer .operation) (m .operation) (not-true _ z) (o ∙ sym i))))
+                (λ o k. counted q (s .start) j _ _ m MessageKind.Put MessageKind.PutAck _ (λ z. omega arith)
+                (λ i. absurd (eqb-false (s .writer .operation) (m .operation) (not-true _ z) (o ∙ sym i))))
                 (x .writer-live);
           };
         })
         (λ z. cond-both (q .round (bits (joined (s .writer .acknowledgers) (index (m .sender))))) _ _ L
-        (λ _. record { live = record { sized-marks = x .sized-marks; reader-live = ack-readers; writer-live = λ o. absurd (omega arith) } })
+        (λ _. record
+        { live = record { sized-marks = x .sized-marks; reader-live = ack-readers; writer-live = λ o. absurd (omega arith) } })
         (λ b. record {
           live = record {
             sized-marks = x .sized-marks;
             reader-live = ack-readers;
             writer-live = λ o k. carry q (s .start) j _ _ _ _ m (same []) MessageKind.Put MessageKind.PutAck (s .writer .acknowledgers) (joined (s .writer .acknowledgers) (index (m .sender)))
-                (counted q (s .start) j _ _ m MessageKind.Put MessageKind.PutAck _ (λ z. omega arith) (λ _. joined-same (s .writer .acknowledgers) (index (m .sender))))
+                (counted q (s .start) j _ _ m MessageKind.Put MessageKind.PutAck _ (λ z. omega arith)
+                (λ _. joined-same (s .writer .acknowledgers) (index (m .sender))))
                 b (joined-old (s .writer .acknowledgers) (index (m .sender))) (x .writer-live o k);
           };
         }))
@@ -319,15 +337,19 @@ module _ {F : Type 0} (q : Rule) (R : ℕ) (law : Lawful q) (start : F) (w : Wor
     other-readers u k n =
         reader-carry q (s .start) j (s .replicas) (s .messages) (s .replicas) (t₁ ++ u) m (same u) R (s .marks)
         (s .marks) k (reader s k)
-        (λ o _ f. counted q (s .start) j _ _ m MessageKind.Query MessageKind.Have _ n₂ (λ i. absurd (n (sym (ap index (meant-for k (owner-first k o f) i to-owner))))))
-        (λ o _ f. counted q (s .start) j _ _ m MessageKind.Back MessageKind.BackAck _ n₄ (λ i. absurd (n (sym (ap index (meant-for k (owner-second k o f) i to-owner))))))
-        (λ o _ f y. plain q (s .start) j (s .replicas) (t₁ ++ u) m R (s .marks) k _ (λ _ i. n (sym (ap index (meant-for k (owner-relay k o f) i to-owner)))) (s .replicas) (s .messages) y)
+        (λ o _ f. counted q (s .start) j _ _ m MessageKind.Query MessageKind.Have _ n₂
+        (λ i. absurd (n (sym (ap index (meant-for k (owner-first k o f) i to-owner))))))
+        (λ o _ f. counted q (s .start) j _ _ m MessageKind.Back MessageKind.BackAck _ n₄
+        (λ i. absurd (n (sym (ap index (meant-for k (owner-second k o f) i to-owner))))))
+        (λ o _ f y. plain q (s .start) j (s .replicas) (t₁ ++ u) m R (s .marks) k _
+        (λ _ i. n (sym (ap index (meant-for k (owner-relay k o f) i to-owner)))) (s .replicas) (s .messages) y)
         (x .reader-live k)
 
     pub other-writer : (u : List (Message F)) → s .writer .operation ≡ j → s .writer .halted ≡ false
         → Exchange q (s .start) j (s .replicas) (t₁ ++ u) MessageKind.Put MessageKind.PutAck (s .writer .acknowledgers)
     other-writer u = writer-carry q (s .start) j _ _ _ _ m (same u) (s .writer)
-        (λ _ _. no-swap q (s .start) j _ _ m MessageKind.Put MessageKind.PutAck _ (λ z. not-put (omega arith)) (λ z. not-put (omega arith)))
+        (λ _ _. no-swap q (s .start) j _ _ m MessageKind.Put MessageKind.PutAck _ (λ z. not-put (omega arith))
+        (λ z. not-put (omega arith)))
         (x .writer-live)
 
     -- That reader is now d, and u has come.
@@ -378,16 +400,19 @@ module _ {F : Type 0} (q : Rule) (R : ℕ) (law : Lawful q) (start : F) (w : Wor
                 due = λ c l _.
                     let z = waits-all (q .size) MessageKind.Back (y .operation) (Party.Reader r) (best y) c l in
                     inl
-                    (inl (record { what = z .what; there = in-right t₁ _ _ (z .there); is = record { kind-is = z .is .kind-is; operation-is = z .is .operation-is ∙ o; receiver-is = z .is .receiver-is } }));
+                    (inl
+                    (record { what = z .what; there = in-right t₁ _ _ (z .there); is = record { kind-is = z .is .kind-is; operation-is = z .is .operation-is ∙ o; receiver-is = z .is .receiver-is } }));
               });
         }))
         (λ b. record {
           live = T r i y []
               (λ o k. live-first q (s .start) j R (s .marks) (s .replicas) (t₁ ++ []) r (y .replies) (y .phase) (ap in-first (v .phase-is) ∙ f)
               (carry q (s .start) j _ _ _ _ m (same []) MessageKind.Query MessageKind.Have (d .replies) (y .replies)
-              (counted q (s .start) j _ _ m MessageKind.Query MessageKind.Have _ (λ z. omega (arith, ap kind-code e)) (λ _. rw (v .replies-is) (joined-same (d .replies) (index (m .sender)))))
+              (counted q (s .start) j _ _ m MessageKind.Query MessageKind.Have _ (λ z. omega (arith, ap kind-code e))
+              (λ _. rw (v .replies-is) (joined-same (d .replies) (index (m .sender)))))
               b (λ n z. rw (v .replies-is) (joined-old (d .replies) (index (m .sender)) n z))
-              (first-live q (s .start) j R (s .marks) (s .replicas) (s .messages) r (d .replies) (d .phase) f (live (sym (v .operation-is) ∙ o) (sym (v .halted-is) ∙ k)))));
+              (first-live q (s .start) j R (s .marks) (s .replicas) (s .messages) r (d .replies) (d .phase) f
+              (live (sym (v .operation-is) ∙ o) (sym (v .halted-is) ∙ k)))));
         })
 
     have-not : counts in-first (reader s (index (m .receiver))) m ≡ false
@@ -396,8 +421,10 @@ module _ {F : Type 0} (q : Rule) (R : ℕ) (law : Lawful q) (start : F) (w : Wor
         let d = reader s (index (m .receiver)) in
         let c = ap kind-code e in
         reader-carry q (s .start) j _ _ _ _ m (same []) R (s .marks) (s .marks) (index (m .receiver)) d
-        (λ o _ f. counted q (s .start) j _ _ m MessageKind.Query MessageKind.Have _ (λ z. omega arith) (λ i. counts-not in-first d m n (o ∙ sym i) f))
-        (λ _ _ _. no-swap q (s .start) j _ _ m MessageKind.Back MessageKind.BackAck _ (λ z. omega arith) (λ z. omega arith))
+        (λ o _ f. counted q (s .start) j _ _ m MessageKind.Query MessageKind.Have _ (λ z. omega arith)
+        (λ i. counts-not in-first d m n (o ∙ sym i) f))
+        (λ _ _ _. no-swap q (s .start) j _ _ m MessageKind.Back MessageKind.BackAck _ (λ z. omega arith)
+        (λ z. omega arith))
         (low-kind (omega arith) (s .replicas) [] (λ c k. k) (index (m .receiver)))
         (x .reader-live (index (m .receiver)))
 
@@ -407,8 +434,12 @@ module _ {F : Type 0} (q : Rule) (R : ℕ) (law : Lawful q) (start : F) (w : Wor
         let r = index (m .receiver) in
         let d = reader s r in
         cond-both (counts in-first d m) _ _ L
-        (λ z. have-after r refl d (heard d (index (m .sender)) (carried m)) (hearing-heard d (index (m .sender)) (carried m)) (counts-parts in-first d m z .phase-is) (x .reader-live r))
-        (λ z. unturned (p .to-owner) (λ z. omega (arith, ap kind-code e)) (λ z. omega (arith, ap kind-code e)) (λ z. omega (arith, ap kind-code e)) (λ z. omega (arith, ap kind-code e)) (λ z. omega (arith, ap kind-code e)) (have-not z))
+        (λ z. have-after r refl d (heard d (index (m .sender)) (carried m))
+        (hearing-heard d (index (m .sender)) (carried m)) (counts-parts in-first d m z .phase-is)
+        (x .reader-live r))
+        (λ z. unturned (p .to-owner) (λ z. omega (arith, ap kind-code e)) (λ z. omega (arith, ap kind-code e))
+        (λ z. omega (arith, ap kind-code e)) (λ z. omega (arith, ap kind-code e))
+        (λ z. omega (arith, ap kind-code e)) (have-not z))
 
   module _ (e : m .kind ≡ MessageKind.BackAck) (p : Ack w m) where
     abbrev T₂ : (r : ℕ) → r ≡ index (m .receiver) → (d : Reader F) (u : List (Message F))
@@ -428,9 +459,12 @@ module _ {F : Type 0} (q : Rule) (R : ℕ) (law : Lawful q) (start : F) (w : Wor
           live = T₂ r i y []
               (λ o k. live-second q (s .start) j R (s .marks) (s .replicas) (t₁ ++ []) r (y .replies) (y .phase) (ap in-second (v .phase-is) ∙ f)
               (carry q (s .start) j _ _ _ _ m (same []) MessageKind.Back MessageKind.BackAck (d .replies) (y .replies)
-              (counted q (s .start) j _ _ m MessageKind.Back MessageKind.BackAck _ (λ z. omega (arith, ap kind-code e)) (λ _. rw (v .replies-is) (joined-same (d .replies) (index (m .sender)))))
+              (counted q (s .start) j _ _ m MessageKind.Back MessageKind.BackAck _
+              (λ z. omega (arith, ap kind-code e))
+              (λ _. rw (v .replies-is) (joined-same (d .replies) (index (m .sender)))))
               b (λ n z. rw (v .replies-is) (joined-old (d .replies) (index (m .sender)) n z))
-              (second-live q (s .start) j R (s .marks) (s .replicas) (s .messages) r (d .replies) (d .phase) f (live (sym (v .operation-is) ∙ o) (sym (v .halted-is) ∙ k)))));
+              (second-live q (s .start) j R (s .marks) (s .replicas) (s .messages) r (d .replies) (d .phase) f
+              (live (sym (v .operation-is) ∙ o) (sym (v .halted-is) ∙ k)))));
         })
 
     back-ack-not : counts in-second (reader s (index (m .receiver))) m ≡ false
@@ -439,8 +473,10 @@ module _ {F : Type 0} (q : Rule) (R : ℕ) (law : Lawful q) (start : F) (w : Wor
         let d = reader s (index (m .receiver)) in
         let c = ap kind-code e in
         reader-carry q (s .start) j _ _ _ _ m (same []) R (s .marks) (s .marks) (index (m .receiver)) d
-        (λ _ _ _. no-swap q (s .start) j _ _ m MessageKind.Query MessageKind.Have _ (λ z. omega arith) (λ z. omega arith))
-        (λ o _ f. counted q (s .start) j _ _ m MessageKind.Back MessageKind.BackAck _ (λ z. omega arith) (λ i. counts-not in-second d m n (o ∙ sym i) f))
+        (λ _ _ _. no-swap q (s .start) j _ _ m MessageKind.Query MessageKind.Have _ (λ z. omega arith)
+        (λ z. omega arith))
+        (λ o _ f. counted q (s .start) j _ _ m MessageKind.Back MessageKind.BackAck _ (λ z. omega arith)
+        (λ i. counts-not in-second d m n (o ∙ sym i) f))
         (low-kind (omega arith) (s .replicas) [] (λ c k. k) (index (m .receiver)))
         (x .reader-live (index (m .receiver)))
 
@@ -450,5 +486,9 @@ module _ {F : Type 0} (q : Rule) (R : ℕ) (law : Lawful q) (start : F) (w : Wor
         let r = index (m .receiver) in
         let d = reader s r in
         cond-both (counts in-second d m) _ _ L
-        (λ z. back-ack-after r refl d (confirmed d (index (m .sender))) (hearing-by d (index (m .sender)) (best d) (d .holders)) (counts-parts in-second d m z .phase-is) (x .reader-live r))
-        (λ z. unturned (p .to-owner) (λ z. omega (arith, ap kind-code e)) (λ z. omega (arith, ap kind-code e)) (λ z. omega (arith, ap kind-code e)) (λ z. omega (arith, ap kind-code e)) (λ z. omega (arith, ap kind-code e)) (back-ack-not z))
+        (λ z. back-ack-after r refl d (confirmed d (index (m .sender)))
+        (hearing-by d (index (m .sender)) (best d) (d .holders)) (counts-parts in-second d m z .phase-is)
+        (x .reader-live r))
+        (λ z. unturned (p .to-owner) (λ z. omega (arith, ap kind-code e)) (λ z. omega (arith, ap kind-code e))
+        (λ z. omega (arith, ap kind-code e)) (λ z. omega (arith, ap kind-code e))
+        (λ z. omega (arith, ap kind-code e)) (back-ack-not z))

@@ -49,7 +49,10 @@ module _ {F : Type 0} (v : World F) (c : ℕ) (k : RelayMark) (j i : ℕ) (x : M
         good = record {
           low = low;
           born = λ _ _. born;
-          fresh = λ n m. elim (joined-cases 0 i n m) [ inl d ↦ rw d fresh | inr o ↦ absurd (both-ways (bits 0 n) (none n) o) ];
+          fresh = λ n m. elim (joined-cases 0 i n m) [
+            | inl d ↦ rw d fresh
+            | inr o ↦ absurd (both-ways (bits 0 n) (none n) o)
+          ];
         };
       })
       (λ e.
@@ -107,7 +110,8 @@ module _ {F : Type 0} (q : Rule) (R : ℕ) (law : Lawful q) (start : F) (w : Wor
     replies n b = record {
       born = x .born;
       high = λ t l. not-held q law (bits (new .relayers)) ((w .ops (m .operation)) .snap) t b
-          (λ k z. omega (arith, there q R law start w s h g c low (carried m) y tk, n .good .fresh k z, ap (λ i. (w .ops i) .snap k) (n .operation-is)));
+          (λ k z. omega
+          (arith, there q R law start w s h g c low (carried m) y tk, n .good .fresh k z, ap (λ i. (w .ops i) .snap k) (n .operation-is)));
       grown = rw from-c (omega (arith, there q R law start w s h g c low (carried m) y tk));
       true-figure = took-true q R law start w s h g c low (carried m) y tk;
       to-owner = owner-is;
@@ -116,17 +120,23 @@ module _ {F : Type 0} (q : Rule) (R : ℕ) (law : Lawful q) (start : F) (w : Wor
     relayed : K (on-relay-at q (with-held s c y) m c y r old)
     relayed =
         cond-both (ltb (m .operation) (old .operation)) _ _ K
-        (λ _. record { world = v; good = raises q R law start w s h g c low (carried m) y tk (s .marks) _ old-marks (record { answers = tt; sent-says = tt }) })
+        (λ _. record
+        { world = v; good = raises q R law start w s h g c low (carried m) y tk (s .marks) _ old-marks (record { answers = tt; sent-says = tt }) })
         (λ e.
         let n = noted (ltb-false (m .operation) (old .operation) e) in
         cond-both (q .round (bits (new .relayers)) && not (new .replied)) _ _ K
         (λ b. record {
           world = v;
           good = raises q R law start w s h g c low (carried m) y tk _ _
-              (marks-with (mark-replied new) (record { low = n .good .low; born = n .good .born; fresh = n .good .fresh }))
-              (record { answers = tt; sent-says = (replies n (and-parts (q .round (bits (new .relayers))) _ b .0), tt) });
+              (marks-with (mark-replied new)
+              (record { low = n .good .low; born = n .good .born; fresh = n .good .fresh }))
+              (record {
+                answers = tt;
+                sent-says = (replies n (and-parts (q .round (bits (new .relayers))) _ b .0), tt);
+              });
         })
-        (λ _. record { world = v; good = raises q R law start w s h g c low (carried m) y tk _ _ (marks-with new (n .good)) (record { answers = tt; sent-says = tt }) }))
+        (λ _. record
+        { world = v; good = raises q R law start w s h g c low (carried m) y tk _ _ (marks-with new (n .good)) (record { answers = tt; sent-says = tt }) }))
 
   pub kept-relay : (m : Message F) → Relayed q R w m → K (on-relay q s m)
   unfolding on-relay
@@ -148,7 +158,10 @@ module _ {F : Type 0} (q : Rule) (R : ℕ) (law : Lawful q) (start : F) (w : Wor
         → bits (joined (d .replies) (index (m .sender))) k ≡ true → b ≤ w .at k
     placed-more b z l n k i = elim (joined-cases (d .replies) (index (m .sender)) k i) [
       | inl a ↦ rw a (omega (arith, y .grown))
-      | inr o ↦ elim z [ inl p ↦ omega (arith, n p, x .placed k o) | inr p ↦ absurd (both-ways (bits 0 k) (none k) (rw p at o)) ]
+      | inr o ↦ elim z [
+        | inl p ↦ omega (arith, n p, x .placed k o)
+        | inr p ↦ absurd (both-ways (bits 0 k) (none k) (rw p at o))
+      ]
     ]
 
     lowers : Relaying q w r (lowered d (index (m .sender)) (carried m))
@@ -199,7 +212,8 @@ module _ {F : Type 0} (q : Rule) (R : ℕ) (law : Lawful q) (start : F) (w : Wor
     after-low : K (after-last q s r d 3)
     after-low =
         cond-both (q .round (bits (d .replies))) _ _ K relay-ends
-        (λ _. waits q R law start w s h g place taken r d same-op (of-relaying q (ticked w) r (d .phase) d e (phase-later q R start w (ticked w) (later-ticked q law w) r (λ i b c. refl) Phase.Relay d x)))
+        (λ _. waits q R law start w s h g place taken r d same-op
+        (of-relaying q (ticked w) r (d .phase) d e (phase-later q R start w (ticked w) (later-ticked q law w) r (λ i b c. refl) Phase.Relay d x)))
 
   reply-at : (m : Message F) (r : ℕ) (d : Reader F) → d .operation ≡ (reader s r) .operation
       → InPhase q w r (d .phase) d → Settling q w m → K (on-reply-at q s m r d)

@@ -126,7 +126,8 @@ module _ {F : Type 0} where
   module _ (rule : Rule) (s : State F) (parts : Sound-parts rule s) where
     pub operations-in : All (λ (a : Message F). a .operation ≤ length (s .journal)) (s .messages)
     operations-in = each-all (addressed rule s) (λ (a : Message F). a .operation ≤ length (s .journal))
-        (λ a e. leb-true (a .operation) (length (s .journal)) ((and-parts (leb 1 (a .operation)) _ ((and-parts (suits rule s (a .kind) (a .sender) (a .receiver)) (in-journal s (a .operation)) e) .1)) .1))
+        (λ a e. leb-true (a .operation) (length (s .journal))
+        ((and-parts (leb 1 (a .operation)) _ ((and-parts (suits rule s (a .kind) (a .sender) (a .receiver)) (in-journal s (a .operation)) e) .1)) .1))
         (s .messages) (parts .all-addressed)
 
     pub placed-at : (r : ℕ) → r < length (s .readers) → placed s r (reader s r) ≡ true
@@ -188,7 +189,8 @@ module _ {F : Type 0} where
         silent (Call.Duplicate place) Reply.Done (message s place ∷ []) (s .writer) (s .replicas) (s .readers)
         (s .messages ++ message s place ∷ []) refl
         (λ n p k b i. not-asked (p, k) b)
-        (λ n b u. omega (arith, load-append (rule .size) n (s .messages) (message s place ∷ []), only-other n ((message s place) .operation) (weight (rule .size) ((message s place) .kind)) (u place (message s place) refl (inl refl))))
+        (λ n b u. omega
+        (arith, load-append (rule .size) n (s .messages) (message s place ∷ []), only-other n ((message s place) .operation) (weight (rule .size) ((message s place) .kind)) (u place (message s place) refl (inl refl))))
 
     halt-stepped : (p : Party) → Stepped rule s (Call.Halt p) (halt s p)
     unfolding halt
@@ -205,7 +207,8 @@ module _ {F : Type 0} where
         let e = ap (λ (w : ℕ). unreplied n w (index ((line s n) .owner)) (rule .size) (s .marks))
         (length-set (s .readers) r (reader-halted (reader s r))) in
         let below = reserve-below (is-round-read ((line s n) .kind)) (is-relay-read ((line s n) .kind)) _ _ _ _
-        (set-below (pending (rule .size) n) (s .readers) r (reader-halted (reader s r)) (new-reader (s .start)) (omega arith) (index ((line s n) .owner)))
+        (set-below (pending (rule .size) n) (s .readers) r (reader-halted (reader s r)) (new-reader (s .start))
+        (omega arith) (index ((line s n) .owner)))
         (le-of-eq e) in
         omega arith)
     halt-stepped (Party.Replica c) =
@@ -300,7 +303,8 @@ module _ {F : Type 0} where
         handled-stepped place h (received rule (without-message s place) m) (leb-true 1 (m .operation) (b .0))
         (leb-true (m .operation) (length (s .journal)) (b .1))
         (received-handled rule (without-message s place) m (a .0)
-        (each-at (λ (x : Message F). booked s (x .kind) (line s (x .operation))) (s .messages) place (no-message (s .start)) h (parts .all-booked))
+        (each-at (λ (x : Message F). booked s (x .kind) (line s (x .operation))) (s .messages) place
+        (no-message (s .start)) h (parts .all-booked))
         (placed-at rule s parts) shaped)
 
     -- A write or a read starts
@@ -329,13 +333,21 @@ module _ {F : Type 0} where
         (kind : MessageKind) (from : Party) (x : Held F)
         (wide : length readers ≡ length (s .readers))
         (none-sent : o .sent ≡ 0)
-        (worth : rule .size + rule .size * weight (rule .size) kind + (cond (is-round-read (o .kind)) (2 * rule .size) 0 + cond (is-relay-read (o .kind)) (rule .size) 0) ≤ limit (rule .size) (o .kind))
-        (less : (n : ℕ) → (next-number s ≡ n → ⊥) → (k : ℕ) → pending (rule .size) n (getD readers k (new-reader (s .start))) ≤ pending (rule .size) n (getD (s .readers) k (new-reader (s .start))))
+        (worth : rule .size + rule .size * weight (rule .size) kind +
+        (cond (is-round-read (o .kind)) (2 * rule .size) 0 + cond (is-relay-read (o .kind)) (rule .size) 0) ≤
+        limit (rule .size) (o .kind))
+        (less : (n : ℕ) → (next-number s ≡ n → ⊥) → (k : ℕ) → pending (rule .size) n
+        (getD readers k (new-reader (s .start))) ≤ pending (rule .size) n
+        (getD (s .readers) k (new-reader (s .start))))
       where
         opened : Outcome F
         opened =
             outcome []
-            (record { reply = Reply.Started (next-number s); sent = to-all (rule .size) kind (next-number s) from x; next = opened-state w readers o })
+            (record {
+              reply = Reply.Started (next-number s);
+              sent = to-all (rule .size) kind (next-number s) from x;
+              next = opened-state w readers o;
+            })
 
         one-line : length (s .journal ++ o ∷ []) ≡ suc (length (s .journal))
         one-line = length-push (s .journal) o ∙ omega arith
@@ -412,11 +424,14 @@ module _ {F : Type 0} where
             old-spends n b h =
                 let other : (next-number s ≡ n → ⊥) = λ (e : next-number s ≡ n). omega arith in
                 let own = all-to-all (next-number s) (next-number s) refl (rule .size) kind from x in
-                let no-more = of-operation-none n (next-number s) (to-all (rule .size) kind (next-number s) from x) own
+                let no-more =
+                of-operation-none n (next-number s) (to-all (rule .size) kind (next-number s) from x) own
                 other in
-                let no-load = load-none (rule .size) n (next-number s) (to-all (rule .size) kind (next-number s) from x)
+                let no-load =
+                load-none (rule .size) n (next-number s) (to-all (rule .size) kind (next-number s) from x)
                 own other in
-                let joined = load-append (rule .size) n (s .messages) (to-all (rule .size) kind (next-number s) from x)
+                let joined =
+                load-append (rule .size) n (s .messages) (to-all (rule .size) kind (next-number s) from x)
                 in
                 let kind-is = same-field (λ (y : Operation F). y .kind) (λ y. refl) n ∙ ap
                 (λ (y : Operation F). y .kind) (old-line n b h) in
@@ -425,7 +440,8 @@ module _ {F : Type 0} where
                 let same = reserve-same (s .start) (s .start) refl ((line (opened .next) n) .kind) ((line s n) .kind)
                 kind-is ((line (opened .next) n) .owner) ((line s n) .owner) owner-is n readers (s .marks) in
                 let e = ap (λ (k : ℕ). unreplied n k (index ((line s n) .owner)) (rule .size) (s .marks)) wide in
-                let below = reserve-below (is-round-read ((line s n) .kind)) (is-relay-read ((line s n) .kind)) _ _ _ _
+                let below =
+                reserve-below (is-round-read ((line s n) .kind)) (is-relay-read ((line s n) .kind)) _ _ _ _
                 (less n other (index ((line s n) .owner))) (le-of-eq e) in
                 omega arith
 
@@ -437,7 +453,8 @@ module _ {F : Type 0} where
                 let loaded = load-to-all (rule .size) n (rule .size) kind (next-number s) from x in
                 let sent-is = only-same n (next-number s) (rule .size) e in
                 let loaded-is = only-same n (next-number s) (rule .size * weight (rule .size) kind) e in
-                let joined = load-append (rule .size) n (s .messages) (to-all (rule .size) kind (next-number s) from x)
+                let joined =
+                load-append (rule .size) n (s .messages) (to-all (rule .size) kind (next-number s) from x)
                 in
                 let none = load-past (rule .size) n (length (s .journal)) (s .messages) (operations-in rule s parts) b
                 in
@@ -446,14 +463,24 @@ module _ {F : Type 0} where
                 (s .marks) in
                 let below = reserve-below (is-round-read (o .kind)) (is-relay-read (o .kind)) _ _ _ _
                 (pending-most n (getD readers (index ((line (opened .next) n) .owner)) (new-reader (s .start))))
-                (unreplied-most n (length readers) (index ((line (opened .next) n) .owner)) (rule .size) (s .marks)) in
+                (unreplied-most n (length readers) (index ((line (opened .next) n) .owner)) (rule .size) (s .marks))
+                in
                 omega (arith, new-limit n b h)
 
     write-stepped : Sound-parts rule s → (f : F) → Stepped rule s (Call.Write f) (outcome [] (write rule s f))
     unfolding write opened
     write-stepped parts f =
         opened-stepped parts (writing (s .writer) (next-number s) ((to-write s f) .stamp)) (s .readers)
-        (record { kind = OperationKind.Write; owner = Party.Writer; started = next-number s + s .finished; finished = 0; exchanges = 0; stamp = (to-write s f) .stamp; figure = f; sent = 0 })
+        (record {
+          kind = OperationKind.Write;
+          owner = Party.Writer;
+          started = next-number s + s .finished;
+          finished = 0;
+          exchanges = 0;
+          stamp = (to-write s f) .stamp;
+          figure = f;
+          sent = 0;
+        })
         MessageKind.Put Party.Writer (to-write s f) refl refl (omega arith) (λ n u k. omega arith) (Call.Write f)
         (λ p k e. ap kind-asked e)
 
@@ -474,11 +501,22 @@ module _ {F : Type 0} where
     read-stepped parts r kind =
         opened-stepped parts (s .writer)
         (set (s .readers) r (reading (s .start) (reader s r) (next-number s) (opening-phase kind)))
-        (record { kind = OperationKind.Read kind; owner = Party.Reader r; started = next-number s + s .finished; finished = 0; exchanges = 0; stamp = (unused (s .start)) .stamp; figure = s .start; sent = 0 })
+        (record {
+          kind = OperationKind.Read kind;
+          owner = Party.Reader r;
+          started = next-number s + s .finished;
+          finished = 0;
+          exchanges = 0;
+          stamp = (unused (s .start)) .stamp;
+          figure = s .start;
+          sent = 0;
+        })
         (opening-message kind) (Party.Reader r) (unused (s .start))
         (length-set (s .readers) r (reading (s .start) (reader s r) (next-number s) (opening-phase kind))) refl
         (worth-read kind)
-        (λ n u k. set-below (pending (rule .size) n) (s .readers) r (reading (s .start) (reader s r) (next-number s) (opening-phase kind)) (new-reader (s .start)) (omega (arith, reading-pending n (reader s r) (opening-phase kind) u)) k)
+        (λ n u k. set-below (pending (rule .size) n) (s .readers) r
+        (reading (s .start) (reader s r) (next-number s) (opening-phase kind)) (new-reader (s .start))
+        (omega (arith, reading-pending n (reader s r) (opening-phase kind) u)) k)
         (Call.Read r kind) (λ p k e. ap kind-asked e)
 
     -- Any call

@@ -68,11 +68,15 @@ module _ {F : Type 0} (q : Rule) (R : ℕ) (law : Lawful q) (start : F) (w : Wor
       module _ (nl : Operation F) (good-line : LineGood v₅ o nl) (d : List (Reader F)) (wr : Writer)
           (free : current (s .start) (s .writer .operation) (s .readers) (o .owner) ≡ 0)
           (at-new-one : current (s .start) (wr .operation) d (o .owner) ≡ next-number s)
-          (others : (p : Party) → (o .owner ≡ p → ⊥) → current (s .start) (wr .operation) d p ≡ current (s .start) (s .writer .operation) (s .readers) p)
+          (others : (p : Party) → (o .owner ≡ p → ⊥) → current (s .start) (wr .operation) d p ≡ current (s .start)
+          (s .writer .operation) (s .readers) p)
           (apart : (p : Party) → (o .owner ≡ p) ⊎ (o .owner ≡ p → ⊥)) where
         work₅ : (i : ℕ) → AtWork (s .start) (wr .operation) d i (v₅ .ops i)
         work₅ = put-each (λ i o. AtWork (s .start) (wr .operation) d i o) (w .ops) (suc (w .count)) o
-            (record { busy = λ _ _. at-new-one ∙ sym number-is; latest = λ _ _. omega (arith, at-new-one, number-is) })
+            (record {
+              busy = λ _ _. at-new-one ∙ sym number-is;
+              latest = λ _ _. omega (arith, at-new-one, number-is);
+            })
             (λ i n. elim (apart ((w .ops i) .owner)) [
               | inl e ↦
                   let z : current (s .start) (s .writer .operation) (s .readers) ((w .ops i) .owner) ≡ 0 = subst
@@ -125,7 +129,8 @@ module _ {F : Type 0} (q : Rule) (R : ℕ) (law : Lawful q) (start : F) (w : Wor
                   (w .ops) (suc (w .count)) o
                   (let c : pred (suc (w .count)) ≡ length (s .journal) = omega (arith, g .count-is) in
                   subst (LineGood v₅ o)
-                  (sym (ap (λ k. getD (s .journal ++ nl ∷ []) k (no-line (s .start))) c ∙ get-new (s .journal) nl (no-line (s .start))))
+                  (sym
+                  (ap (λ k. getD (s .journal ++ nl ∷ []) k (no-line (s .start))) c ∙ get-new (s .journal) nl (no-line (s .start))))
                   good-line)
                   (λ i n. elim (cases-eq ((w .ops i) .stage) 0) [
                     | inl z ↦ line-none v₅ (w .ops i) _ z
@@ -143,13 +148,15 @@ module _ {F : Type 0} (q : Rule) (R : ℕ) (law : Lawful q) (start : F) (w : Wor
               };
               begun =
                   put-each
-                  (λ i p. 1 ≤ p .stage → (1 ≤ (w .ops i) .stage) ⊎ ((p .begun ≡ length h) × (_≡_ {A = Reply F} (Reply.Started (next-number s)) (Reply.Started i))))
+                  (λ i p. 1 ≤ p .stage → (1 ≤ (w .ops i) .stage) ⊎
+                  ((p .begun ≡ length h) × (_≡_ {A = Reply F} (Reply.Started (next-number s)) (Reply.Started i))))
                   (w .ops) (suc (w .count)) o
                   (λ _. inr (begun-is ∙ g .now-is, λ i. Reply.Started (sym number-is i)))
                   (λ i _ l. inl l);
               ended =
                   put-each
-                  (λ i p. 3 ≤ p .stage → (3 ≤ (w .ops i) .stage) ⊎ ((p .ended ≡ length h) × Closes (record { call = c; reply = Reply.Started (next-number s); taken = []; sent = sent }) i (value (p .aim))))
+                  (λ i p. 3 ≤ p .stage → (3 ≤ (w .ops i) .stage) ⊎
+                  ((p .ended ≡ length h) × Closes (record { call = c; reply = Reply.Started (next-number s); taken = []; sent = sent }) i (value (p .aim))))
                   (w .ops) (suc (w .count)) o
                   (λ l. absurd (omega arith)) (λ i _ l. inl l);
             })
@@ -227,19 +234,34 @@ module _ {F : Type 0} (q : Rule) (R : ℕ) (law : Lawful q) (start : F) (w : Wor
         world = v;
         good =
             begins o (w .last) (w .value) (w .wrote) up core (omega arith) (omega arith) refl
-            (record { kind = OperationKind.Read kind; owner = p; started = next-number s + s .finished; finished = 0; exchanges = 0; stamp = no-stamp; figure = s .start; sent = 0 })
-            (record { owner-is = λ _. refl; write-rank = λ _ f. absurd (both-ways _ f refl); write-value = λ _ f. absurd (both-ways _ f refl) })
+            (record {
+              kind = OperationKind.Read kind;
+              owner = p;
+              started = next-number s + s .finished;
+              finished = 0;
+              exchanges = 0;
+              stamp = no-stamp;
+              figure = s .start;
+              sent = 0;
+            })
+            (record {
+              owner-is = λ _. refl;
+              write-rank = λ _ f. absurd (both-ways _ f refl);
+              write-value = λ _ f. absurd (both-ways _ f refl);
+            })
             (set (s .readers) r d) (s .writer) free (now-read r low free d refl) (others-read r low free d refl)
             (apart-reader r)
             (Call.Read r kind) _ (g .last-is)
-            (all-to-all (opening-message kind) (next-number s) p (unused (s .start)) (λ m. Says q R v (m .kind) m) (q .size) (λ c _. asked r low kind _ hr))
+            (all-to-all (opening-message kind) (next-number s) p (unused (s .start)) (λ m. Says q R v (m .kind) m)
+            (q .size) (λ c _. asked r low kind _ hr))
             (record { reads = ap (λ y. y .reading) hr; owner-is = ap (λ y. y .owner) hr })
             (length-set (s .readers) r d ∙ g .readers-are)
             (each-set (λ k y. InPhase q v k (y .phase) y) (s .readers) r d _
             (opened r low kind d (ap unused (g .start-is)) refl hr)
             (λ _. tt)
             (λ k n. phase-later q R start w v up k (st (Party.Reader k)) _ _ (g .readers k)))
-            (writing-later q R start w v up (st Party.Writer) (s .writer .operation) (s .writer .acknowledgers) (g .writer));
+            (writing-later q R start w v up (st Party.Writer) (s .writer .operation) (s .writer .acknowledgers)
+            (g .writer));
       }
 
   others-write : (n : ℕ) (p : Party) → (Party.Writer ≡ p → ⊥)
@@ -267,13 +289,23 @@ module _ {F : Type 0} (q : Rule) (R : ℕ) (law : Lawful q) (start : F) (w : Wor
         world = v;
         good =
             begins o a value wrote up core (omega arith) (omega arith) refl
-            (record { kind = OperationKind.Write; owner = Party.Writer; started = next-number s + s .finished; finished = 0; exchanges = 0; stamp = x .stamp; figure = f; sent = 0 })
+            (record {
+              kind = OperationKind.Write;
+              owner = Party.Writer;
+              started = next-number s + s .finished;
+              finished = 0;
+              exchanges = 0;
+              stamp = x .stamp;
+              figure = f;
+              sent = 0;
+            })
             (record { owner-is = λ _. refl; write-rank = λ _ _. refl; write-value = λ _ _. value-is })
             (s .readers) (writing (s .writer) (next-number s) (x .stamp)) free refl (others-write (next-number s))
             apart-writer
             (Call.Write f) _ refl
             (all-to-all MessageKind.Put (next-number s) Party.Writer x (λ m. Says q R v (m .kind) m) (q .size)
-            (λ c k. record { settled = omega (arith, ap (λ y. y .stage) hr); aims = sym (ap (λ y. y .aim) hr); true-figure = record { written = record { low = omega arith; by-one = λ _. omega (arith, put-same (w .wrote) a (suc (w .count))) }; is = value-is }; to-low = k }))
+            (λ c k. record
+            { settled = omega (arith, ap (λ y. y .stage) hr); aims = sym (ap (λ y. y .aim) hr); true-figure = record { written = record { low = omega arith; by-one = λ _. omega (arith, put-same (w .wrote) a (suc (w .count))) }; is = value-is }; to-low = k }))
             (record {
               writes = ap (λ y. y .reading) hr;
               settled = omega (arith, ap (λ y. y .stage) hr);
@@ -284,5 +316,10 @@ module _ {F : Type 0} (q : Rule) (R : ℕ) (law : Lawful q) (start : F) (w : Wor
             })
             (g .readers-are)
             (λ k. phase-later q R start w v up k (st (Party.Reader k)) _ _ (g .readers k))
-            (record { stage-is = λ _. ap (λ y. y .stage) hr; owner-is = λ _. ap (λ y. y .owner) hr; writes = λ _. ap (λ y. y .reading) hr; acked = λ _ c m. absurd (both-ways (bits 0 c) (none c) m) });
+            (record {
+              stage-is = λ _. ap (λ y. y .stage) hr;
+              owner-is = λ _. ap (λ y. y .owner) hr;
+              writes = λ _. ap (λ y. y .reading) hr;
+              acked = λ _ c m. absurd (both-ways (bits 0 c) (none c) m);
+            });
       }

@@ -180,7 +180,8 @@ module _ {F : Type 0} (q : Rule) (R : ℕ) (law : Lawful q) (start : F) (w : Wor
   keeps-duplicated place l = record {
     world = v₁;
     good = waits-only _ _ (record { answers = tt; sent-says = tt })
-        (all-push (λ m. Says q R v₁ (m .kind) m) (s .messages) _ old-messages (all-getD (λ m. Says q R v₁ (m .kind) m) (s .messages) place _ l old-messages));
+        (all-push (λ m. Says q R v₁ (m .kind) m) (s .messages) _ old-messages
+        (all-getD (λ m. Says q R v₁ (m .kind) m) (s .messages) place _ l old-messages));
   }
 
   same-phase : (r : ℕ) (p : Phase) (d : Reader F) → InPhase q v₁ r p d → InPhase q v₁ r p (reader-halted d)
@@ -226,7 +227,8 @@ module _ {F : Type 0} (q : Rule) (R : ℕ) (law : Lawful q) (start : F) (w : Wor
         (length-set (s .readers) r _ ∙ g .readers-are) refl refl
         (each-set-all (λ k y. y .operation ≡ (reader s k) .operation) (s .readers) r _ _ refl (λ k. refl)) (g .at-is)
         old-figures old-messages
-        (each-set-all (λ k x. InPhase q v₁ k (x .phase) x) (s .readers) r _ _ (same-phase r _ _ (old-reader r)) old-reader)
+        (each-set-all (λ k x. InPhase q v₁ k (x .phase) x) (s .readers) r _ _ (same-phase r _ _ (old-reader r))
+        old-reader)
         old-writer;
   }
   keeps-halt (Party.Replica c) = record {
@@ -284,8 +286,12 @@ module _ {F : Type 0} (q : Rule) (R : ℕ) (law : Lawful q) (start : F) (w : Wor
               owner-low = x .owner-low;
               owner-reads = x .owner-reads;
               fresh =
-                  omega
-                  (arith, g .at-is (index (m .receiver)), g .core .op (m .operation) .grown (x .born) (index (m .receiver)));
+                  omega (
+                    arith,
+                    g .at-is (index (m .receiver)),
+                    g .core .op (m .operation) .grown (x .born)
+                        (index (m .receiver)),
+                  );
               true-figure = old-figures (index (m .receiver));
               to-low = l;
             });

@@ -110,7 +110,12 @@ module _ {F : Type 0} (q : Rule) (R : ℕ) (law : Lawful q) (start : F) (w : Wor
   }
   halt-lives (Party.Replica c) = record {
     live = unmoved _ (s .messages) nothing
-        (record { keeps = λ y i. inl i; awake = each-set-all (λ k y. y .halted ≡ false → Awake (s .start) (s .replicas) k) (s .replicas) c _ _ (λ e. absurd (both-ways true e refl)) (λ k e. e) })
+        (record {
+          keeps = λ y i. inl i;
+          awake =
+              each-set-all (λ k y. y .halted ≡ false → Awake (s .start) (s .replicas) k) (s .replicas) c _ _
+              (λ e. absurd (both-ways true e refl)) (λ k e. e);
+        })
         not-nothing;
   }
 
@@ -122,7 +127,8 @@ module _ {F : Type 0} (q : Rule) (R : ℕ) (law : Lawful q) (start : F) (w : Wor
     due = λ c l _.
         let z = waits-all (q .size) a n from y c l in
         inl
-        (inl (record { what = z .what; there = in-right (s .messages) _ _ (z .there); is = record { kind-is = z .is .kind-is; operation-is = z .is .operation-is ∙ e; receiver-is = z .is .receiver-is } }));
+        (inl
+        (record { what = z .what; there = in-right (s .messages) _ _ (z .there); is = record { kind-is = z .is .kind-is; operation-is = z .is .operation-is ∙ e; receiver-is = z .is .receiver-is } }));
   }
 
   write-lives : (f : F) → O (outcome [] (write q s f))
@@ -149,7 +155,15 @@ module _ {F : Type 0} (q : Rule) (R : ℕ) (law : Lawful q) (start : F) (w : Wor
     asked = λ c l _.
         let z = waits-all (q .size) MessageKind.Fan n (Party.Reader r) y c l in
         inl
-        (record { what = z .what; there = in-right (s .messages) _ _ (z .there); is = record { kind-is = z .is .kind-is; operation-is = z .is .operation-is ∙ e; receiver-is = z .is .receiver-is } });
+        (record {
+          what = z .what;
+          there = in-right (s .messages) _ _ (z .there);
+          is = record {
+            kind-is = z .is .kind-is;
+            operation-is = z .is .operation-is ∙ e;
+            receiver-is = z .is .receiver-is;
+          };
+        });
     rounds = λ c a. absurd (omega (arith, marks-low (c * R + r)));
     answers = λ c a. absurd (omega (arith, marks-low (c * R + r)));
     low = λ c. omega (arith, marks-low (c * R + r));
@@ -226,6 +240,7 @@ module _ {F : Type 0} (q : Rule) (law : Lawful q) (start : F) where
     writer-live = λ e. absurd (omega arith);
     reader-live =
         each-replicate
-        (λ k (y : Reader F). AtIt q start j R (replicate (q .size * R) new-mark) (replicate (q .size) (new-replica start)) [] k y)
+        (λ k (y : Reader F). AtIt q start j R (replicate (q .size * R) new-mark)
+        (replicate (q .size) (new-replica start)) [] k y)
         R _ _ (λ k e. absurd (omega arith)) (λ k e. absurd (omega arith));
   }

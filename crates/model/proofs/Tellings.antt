@@ -69,8 +69,14 @@ module _ {F : Type 0} (q : Rule) (R : ℕ) (law : Lawful q) (start : F) (w : Wor
   write-shown : (n m : ℕ) (e : Event F) → At h m e → e .reply ≡ Reply.Started n → (op n) .reading ≡ false
       → (c : Call F) → e .call ≡ c → Opens w n c (e .sent) → Writes h n (shown w n)
   write-shown n m e a d r (Call.Write f) i o =
-      let p = o .puts in
-      (m, e, a, i ∙ ap (λ y. Call.Write y) (sym (o .figure-is)), d, ((p .0, (m, e, a, p .1, p .2, p .3)), λ b z. puts-aim n b z .1))
+      let p = o .puts in (
+        m,
+        e,
+        a,
+        i ∙ ap (λ y. Call.Write y) (sym (o .figure-is)),
+        d,
+        ((p .0, (m, e, a, p .1, p .2, p .3)), λ b z. puts-aim n b z .1),
+      )
   write-shown n m e a d r (Call.Read k kind) i o = absurd (both-ways ((op n) .reading) r (o .reads))
   write-shown n m e a d r (Call.Deliver p) i o = absurd o
   write-shown n m e a d r (Call.Drop p) i o = absurd o
@@ -158,7 +164,8 @@ module _ {F : Type 0} (q : Rule) (R : ℕ) (law : Lawful q) (start : F) (w : Wor
         | inl d ↦
             let e = at-same h m (f .0) (b .0) (f .4) (subst (λ k. At h k (b .0)) d (b .1)) in
             absurd
-            (both-ways false refl (sym (ap is-start (f .6)) ∙ ap (λ (v : Event F). is-start (v .reply)) e ∙ ap is-start (b .2)))
+            (both-ways false refl
+            (sym (ap is-start (f .6)) ∙ ap (λ (v : Event F). is-start (v .reply)) e ∙ ap is-start (b .2)))
       ]
 
   pub numbered : Numbered h s

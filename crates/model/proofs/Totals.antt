@@ -151,8 +151,12 @@ module _ {F : Type 0} where
   unfolding load
   load-none size n k [] h u = refl
   load-none size n k (a ∷ l) h u =
-      omega
-      (arith, only-other n (a .operation) (weight size (a .kind)) (λ e. u (omega (arith, h .0))), load-none size n k l (h .1) u)
+      omega (
+        arith,
+        only-other n (a .operation) (weight size (a .kind)) (λ e. u (omega (arith, h .0))),
+        load-none size n k l
+            (h .1) u,
+      )
 
   -- no operation so far has a message that waits
   pub load-past : (size n lines : ℕ) (l : List (Message F)) → All (λ a. a .operation ≤ lines) l → lines < n
@@ -160,8 +164,12 @@ module _ {F : Type 0} where
   unfolding load
   load-past size n lines [] h u = refl
   load-past size n lines (a ∷ l) h u =
-      omega
-      (arith, only-other n (a .operation) (weight size (a .kind)) (λ e. omega (arith, h .0)), load-past size n lines l (h .1) u)
+      omega (
+        arith,
+        only-other n (a .operation) (weight size (a .kind)) (λ e. omega (arith, h .0)),
+        load-past size n lines l
+            (h .1) u,
+      )
 
   -- The journal: what a finish and more messages leave of each line
 

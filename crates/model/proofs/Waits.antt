@@ -93,7 +93,8 @@ pub hearing-heard : {F : Type 0} (d : Reader F) (c : ℕ) (x : Held F) → Heari
 unfolding heard
 hearing-heard d c x =
     cond-both (ltb (rank (d .«best_stamp»)) (rank (x .stamp))) _ _ (Hearing d c) (λ _. hearing-by d c x _)
-    (λ _. cond-both (eqb (rank (d .«best_stamp»)) (rank (x .stamp))) _ _ (Hearing d c) (λ _. hearing-by d c _ _) (λ _. hearing-by d c _ _))
+    (λ _. cond-both (eqb (rank (d .«best_stamp»)) (rank (x .stamp))) _ _ (Hearing d c) (λ _. hearing-by d c _ _)
+    (λ _. hearing-by d c _ _))
 
 pub hearing-lowered : {F : Type 0} (d : Reader F) (c : ℕ) (x : Held F) → Hearing d c (lowered d c x)
 unfolding lowered
@@ -124,7 +125,10 @@ module _ {F : Type 0} (w : World F) (r : ℕ) (d : Reader F) (c : ℕ) (x : Held
         asked =
             asked-more (rank (x .stamp)) (omega (arith, ltb-true (rank (d .«best_stamp»)) (rank (x .stamp)) l))
             (omega arith);
-        holding = λ k m. elim (joined-cases 0 c k m) [ inl i ↦ rw i grown | inr o ↦ absurd (both-ways (bits 0 k) (none k) o) ];
+        holding = λ k m. elim (joined-cases 0 c k m) [
+          | inl i ↦ rw i grown
+          | inr o ↦ absurd (both-ways (bits 0 k) (none k) o)
+        ];
       })
       (λ l. cond-both (eqb (rank (d .«best_stamp»)) (rank (x .stamp))) _ _ (First w r)
       (λ b. record {
@@ -135,7 +139,10 @@ module _ {F : Type 0} (w : World F) (r : ℕ) (d : Reader F) (c : ℕ) (x : Held
         asked =
             asked-more (rank (d .«best_stamp»)) (omega arith)
             (ltb-false (rank (d .«best_stamp»)) (rank (x .stamp)) l);
-        holding = λ k m. elim (joined-cases (d .holders) c k m) [ inl i ↦ rw i (omega (arith, eqb-true (rank (d .«best_stamp»)) (rank (x .stamp)) b)) | inr o ↦ p .holding k o ];
+        holding = λ k m. elim (joined-cases (d .holders) c k m) [
+          | inl i ↦ rw i (omega (arith, eqb-true (rank (d .«best_stamp»)) (rank (x .stamp)) b))
+          | inr o ↦ p .holding k o
+        ];
       })
       (λ b. record {
         stage-is = p .stage-is;
@@ -184,8 +191,15 @@ module _ {F : Type 0} (q : Rule) (R : ℕ) (law : Lawful q) (start : F) (w : Wor
               (subst (λ p. current (s .start) 0 (s .readers) p ≡ 0) (sym (x .owner-is pos)) refl) others
               (λ p. rw (x .owner-is pos) (apart-writer p))
               (one-more (s .finished)) _ ((line s j) .sent) 2 refl refl place refl (g .readers-are)
-              (λ k. phase-later q R start w _ (later-changed q law w j _ on) k (still-changed q R law start w s h g j _ on (Party.Reader k) (λ n. omega (arith, ap code n, ap code (x .owner-is pos)))) _ _ (g .readers k))
-              (record { stage-is = λ l. absurd (omega arith); owner-is = λ l. absurd (omega arith); writes = λ l. absurd (omega arith); acked = λ l. absurd (omega arith) });
+              (λ k. phase-later q R start w _ (later-changed q law w j _ on) k
+              (still-changed q R law start w s h g j _ on (Party.Reader k) (λ n. omega (arith, ap code n, ap code (x .owner-is pos))))
+              _ _ (g .readers k))
+              (record {
+                stage-is = λ l. absurd (omega arith);
+                owner-is = λ l. absurd (omega arith);
+                writes = λ l. absurd (omega arith);
+                acked = λ l. absurd (omega arith);
+              });
         }
 
     writer-waits : K (quiet (with-writer s (acknowledged (s .writer) c)))
@@ -196,7 +210,8 @@ module _ {F : Type 0} (q : Rule) (R : ℕ) (law : Lawful q) (start : F) (w : Wor
           (record { answers = tt; sent-says = tt }) (g .replicas-are) (g .readers-are) refl refl (λ r. refl)
           (g .at-is)
           (old-figures q R law start w s h g) (old-messages q R law start w s h g) (old-reader q R law start w s h g)
-          (rw same-op (record { stage-is = x .stage-is; owner-is = x .owner-is; writes = x .writes; acked = λ _. acked }));
+          (rw same-op
+          (record { stage-is = x .stage-is; owner-is = x .owner-is; writes = x .writes; acked = λ _. acked }));
     }
 
   pub kept-put-ack : (m : Message F) → Ack w m → K (on-put-ack q s m)
