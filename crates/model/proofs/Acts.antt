@@ -33,10 +33,16 @@ pub takes : {F : Type 0} (w : World F) (own offered : Held F) → True w (own .s
     → True w (offered .stamp) (offered .figure) → Takes w own offered (took own offered)
 takes w own offered a b =
     cond-both (ltb (rank (own .stamp)) (rank (offered .stamp))) offered own (Takes w own offered)
-    (λ e. record
-    { above-own = omega (arith, ltb-true (rank (own .stamp)) (rank (offered .stamp)) e); above-offered = omega arith; true-figure = b })
-    (λ e. record
-    { above-own = omega arith; above-offered = ltb-false (rank (own .stamp)) (rank (offered .stamp)) e; true-figure = a })
+    (λ e. record {
+      above-own = omega (arith, ltb-true (rank (own .stamp)) (rank (offered .stamp)) e);
+      above-offered = omega arith;
+      true-figure = b;
+    })
+    (λ e. record {
+      above-own = omega arith;
+      above-offered = ltb-false (rank (own .stamp)) (rank (offered .stamp)) e;
+      true-figure = a;
+    })
 
 module _ {F : Type 0} (q : Rule) (R : ℕ) (law : Lawful q) (start : F) (w : World F) (s : State F) (h : History F)
     (g : Good q R start w s h) where

@@ -65,8 +65,10 @@ module _ {F : Type 0} where
       → True w (x .stamp) (x .figure)
   start-true w start v x e =
       let z : rank (x .stamp) ≡ 0 = ap (λ y. rank (y .stamp)) e ∙ rank-start in
-      record
-      { written = record { low = omega arith; by-one = λ p. absurd (omega arith) }; is = e ∙ sym v ∙ ap (w .value) (sym z) }
+      record {
+        written = record { low = omega arith; by-one = λ p. absurd (omega arith) };
+        is = e ∙ sym v ∙ ap (w .value) (sym z);
+      }
 
   pub record Store (q : Rule) (w : World F) (m : Message F) : Type 0 where
     pub settled : 2 ≤ (w .ops (m .operation)) .stage

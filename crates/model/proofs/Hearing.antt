@@ -147,8 +147,12 @@ module _ {F : Type 0} (q : Rule) (R : ℕ) (law : Lawful q) (start : F) (w : Wor
             answers = tt;
             sent-says =
                 all-to-all MessageKind.Back j (Party.Reader r) (best d) (λ m. Says q R v₄ (m .kind) m) (q .size)
-                (λ c l. record
-                { settled = omega (arith, ap (λ y. y .stage) here); aims = sym (ap (λ y. y .aim) here); true-figure = true-later q R start w v₄ up₄ (x .true-figure); to-low = l });
+                (λ c l. record {
+                  settled = omega (arith, ap (λ y. y .stage) here);
+                  aims = sym (ap (λ y. y .aim) here);
+                  true-figure = true-later q R start w v₄ up₄ (x .true-figure);
+                  to-low = l;
+                });
           };
           begun =
               put-each

@@ -85,8 +85,11 @@ module _ {F : Type 0} (q : Rule) (R : ℕ) (law : Lawful q) (start : F) (w : Wor
   kept : (j : ℕ) → keep j ≡ true → Kept j
   kept j e = elim (or-cases (leb 3 ((op j) .stage)) (leb 1 ((op j) .stage) && (not ((op j) .reading) && some (answers ((op j) .aim)) (w .count))) e) [
     | inl a ↦ let l =
-        leb-true 3 ((op j) .stage) a in record
-        { settled = omega arith; held-aim = g .core .op j .kept l; why = inl l }
+        leb-true 3 ((op j) .stage) a in record {
+          settled = omega arith;
+          held-aim = g .core .op j .kept l;
+          why = inl l;
+        }
     | inr a ↦
         let b = and-parts (leb 1 ((op j) .stage)) (not ((op j) .reading) && some (answers ((op j) .aim)) (w .count)) a
         in

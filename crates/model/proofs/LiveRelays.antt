@@ -42,11 +42,19 @@ marks : (k : RelayMark) (n c : ℕ) → k .operation ≤ n → Marked k n c (mar
 unfolding marked
 marks k n c l =
     cond-both (ltb (k .operation) n) _ _ (Marked k n c)
-    (λ e. record
-    { operation-is = refl; has = joined-same 0 c; keeps = λ d. absurd (omega (arith, d, ltb-true (k .operation) n e)); was-replied = λ r. absurd (both-ways false refl r) })
+    (λ e. record {
+      operation-is = refl;
+      has = joined-same 0 c;
+      keeps = λ d. absurd (omega (arith, d, ltb-true (k .operation) n e));
+      was-replied = λ r. absurd (both-ways false refl r);
+    })
     (λ e. let d : k .operation ≡ n = omega (arith, ltb-false (k .operation) n e) in
-    record
-    { operation-is = d; has = joined-same (k .relayers) c; keeps = λ _. joined-old (k .relayers) c; was-replied = λ r. (d, r) })
+    record {
+      operation-is = d;
+      has = joined-same (k .relayers) c;
+      keeps = λ _. joined-old (k .relayers) c;
+      was-replied = λ r. (d, r);
+    })
 
 module _ {F : Type 0} (q : Rule) (R : ℕ) (law : Lawful q) (start : F) (w : World F) (s : State F) (h : History F)
     (g : Good q R start w s h) (j : ℕ) (pos : 0 < j) (x : LiveIn q R j s)

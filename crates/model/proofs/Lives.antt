@@ -315,8 +315,13 @@ module _ {F : Type 0} (q : Rule) (R : ℕ) (law : Lawful q) (start : F) (w : Wor
           };
         })
         (λ z. cond-both (q .round (bits (joined (s .writer .acknowledgers) (index (m .sender))))) _ _ L
-        (λ _. record
-        { live = record { sized-marks = x .sized-marks; reader-live = ack-readers; writer-live = λ o. absurd (omega arith) } })
+        (λ _. record {
+          live = record {
+            sized-marks = x .sized-marks;
+            reader-live = ack-readers;
+            writer-live = λ o. absurd (omega arith);
+          };
+        })
         (λ b. record {
           live = record {
             sized-marks = x .sized-marks;

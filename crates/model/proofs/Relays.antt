@@ -120,8 +120,12 @@ module _ {F : Type 0} (q : Rule) (R : ℕ) (law : Lawful q) (start : F) (w : Wor
     relayed : K (on-relay-at q (with-held s c y) m c y r old)
     relayed =
         cond-both (ltb (m .operation) (old .operation)) _ _ K
-        (λ _. record
-        { world = v; good = raises q R law start w s h g c low (carried m) y tk (s .marks) _ old-marks (record { answers = tt; sent-says = tt }) })
+        (λ _. record {
+          world = v;
+          good =
+              raises q R law start w s h g c low (carried m) y tk (s .marks) _ old-marks
+              (record { answers = tt; sent-says = tt });
+        })
         (λ e.
         let n = noted (ltb-false (m .operation) (old .operation) e) in
         cond-both (q .round (bits (new .relayers)) && not (new .replied)) _ _ K
@@ -135,8 +139,12 @@ module _ {F : Type 0} (q : Rule) (R : ℕ) (law : Lawful q) (start : F) (w : Wor
                 sent-says = (replies n (and-parts (q .round (bits (new .relayers))) _ b .0), tt);
               });
         })
-        (λ _. record
-        { world = v; good = raises q R law start w s h g c low (carried m) y tk _ _ (marks-with new (n .good)) (record { answers = tt; sent-says = tt }) }))
+        (λ _. record {
+          world = v;
+          good =
+              raises q R law start w s h g c low (carried m) y tk _ _ (marks-with new (n .good))
+              (record { answers = tt; sent-says = tt });
+        }))
 
   pub kept-relay : (m : Message F) → Relayed q R w m → K (on-relay q s m)
   unfolding on-relay

@@ -196,10 +196,16 @@ module _ {F : Type 0} (q : Rule) (R : ℕ) (law : Lawful q) (start : F) where
     };
     readers-are = length-replicate R _;
     marks = each-replicate (λ i k. MarkGood dawn (i / R) k) (q .size * R) _ _
-        (λ i. record
-        { low = omega arith; born = λ c m. absurd (both-ways (bits 0 c) (none c) m); fresh = λ c m. omega arith })
-        (λ i. record
-        { low = omega arith; born = λ c m. absurd (both-ways (bits 0 c) (none c) m); fresh = λ c m. omega arith });
+        (λ i. record {
+          low = omega arith;
+          born = λ c m. absurd (both-ways (bits 0 c) (none c) m);
+          fresh = λ c m. omega arith;
+        })
+        (λ i. record {
+          low = omega arith;
+          born = λ c m. absurd (both-ways (bits 0 c) (none c) m);
+          fresh = λ c m. omega arith;
+        });
     lines = λ j. line-none dawn _ _ refl;
     at-work = λ j. record { busy = λ a. absurd (omega arith); latest = λ a. absurd (omega arith) };
     told = λ m r e. absurd e;

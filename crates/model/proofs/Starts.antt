@@ -304,8 +304,18 @@ module _ {F : Type 0} (q : Rule) (R : ℕ) (law : Lawful q) (start : F) (w : Wor
             apart-writer
             (Call.Write f) _ refl
             (all-to-all MessageKind.Put (next-number s) Party.Writer x (λ m. Says q R v (m .kind) m) (q .size)
-            (λ c k. record
-            { settled = omega (arith, ap (λ y. y .stage) hr); aims = sym (ap (λ y. y .aim) hr); true-figure = record { written = record { low = omega arith; by-one = λ _. omega (arith, put-same (w .wrote) a (suc (w .count))) }; is = value-is }; to-low = k }))
+            (λ c k. record {
+              settled = omega (arith, ap (λ y. y .stage) hr);
+              aims = sym (ap (λ y. y .aim) hr);
+              true-figure = record {
+                written = record {
+                  low = omega arith;
+                  by-one = λ _. omega (arith, put-same (w .wrote) a (suc (w .count)));
+                };
+                is = value-is;
+              };
+              to-low = k;
+            }))
             (record {
               writes = ap (λ y. y .reading) hr;
               settled = omega (arith, ap (λ y. y .stage) hr);

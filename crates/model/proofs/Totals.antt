@@ -107,8 +107,14 @@ module _ {F : Type 0} where
       zero-either true = refl
       zero-either false = refl
   of-operation-to-all n (suc c) kind k from x =
-      let a : Message F = record
-      { kind = kind; operation = k; sender = from; receiver = Party.Replica c; stamp = x .stamp; figure = x .figure }
+      let a : Message F = record {
+        kind = kind;
+        operation = k;
+        sender = from;
+        receiver = Party.Replica c;
+        stamp = x .stamp;
+        figure = x .figure;
+      }
       in
       of-operation-append n (to-all c kind k from x) (a ∷ []) ∙ ap (λ z. z + (only-for n k 1 + 0))
       (of-operation-to-all n c kind k from x) ∙ one-more-same (eqb k n)
@@ -126,8 +132,14 @@ module _ {F : Type 0} where
       zero-either true = omega arith
       zero-either false = refl
   load-to-all size n (suc c) kind k from x =
-      let a : Message F = record
-      { kind = kind; operation = k; sender = from; receiver = Party.Replica c; stamp = x .stamp; figure = x .figure }
+      let a : Message F = record {
+        kind = kind;
+        operation = k;
+        sender = from;
+        receiver = Party.Replica c;
+        stamp = x .stamp;
+        figure = x .figure;
+      }
       in
       load-append size n (to-all c kind k from x) (a ∷ []) ∙ ap (λ z. z + (only-for n k (weight size kind) + 0))
       (load-to-all size n c kind k from x) ∙ more-same (eqb k n) c (weight size kind)
