@@ -11,6 +11,7 @@ mod parties;
 mod reader;
 mod replica;
 mod service;
+mod worked;
 mod writer;
 
 pub use answers::Refusal;
@@ -27,4 +28,5 @@ pub use reader::Phase;
 pub use reader::Reader;
 pub use replica::Replica;
 pub use service::register_serves;
+pub use worked::worked_examples_stand;
 pub use writer::Writer;

@@ -1,0 +1,30 @@
+-- Worked examples of the rules and of whole runs, as one statement.
+use mathlib.Core.Path.{_≡_}
+use mathlib.Core.List.{List, [], _∷_}
+use Prim.Native.Nat.{ℕ}
+use Rattle.quorum.specs.Sets.{Rule}
+use Rattle.quorum.specs.Families.{count-rule}
+use Rattle.quorum.specs.Examples.{Rule-examples}
+use Rattle.model.specs.declared.journal.ReadKind.{ReadKind}
+use Rattle.model.specs.declared.calls.Call.{Call}
+use Rattle.model.specs.declared.answers.Reply.{Reply}
+use Rattle.model.specs.declared.answers.Refusal.{Refusal}
+use Rattle.model.specs.State.{fresh}
+use Rattle.model.specs.History.{run, replies}
+
+-- What a list of calls is answered on a newly commissioned register, with so many readers and room for so many messages.
+abbrev pub answers : {F : Type 0} → Rule → F → ℕ → ℕ → List (Call F) → List (Reply F)
+answers rule start readers message-room calls =
+    replies ((run rule (fresh rule start readers message-room 256) calls) .history)
+
+pub record Worked-examples : Type 0 where
+  pub rules : Rule-examples
+  -- one replica: a relay read and three deliveries show the start, with 3 messages sent and after 3 exchanges
+  pub relay-alone : (start : ℕ)
+      → answers (count-rule 1 0) start 1 1024
+      (Call.Read 0 ReadKind.Relay ∷ Call.Deliver 0 ∷ Call.Deliver 0 ∷ Call.Deliver 0 ∷ [])
+      ≡ Reply.Started 1 ∷ Reply.Done ∷ Reply.Done ∷ Reply.Finished 1 0 start 3 3 ∷ []
+  -- room for five messages: after a write of three a read has none, and a delivery is done
+  pub five-places : (start figure : ℕ)
+      → answers (count-rule 3 1) start 1 5 (Call.Write figure ∷ Call.Read 0 ReadKind.Quick ∷ Call.Deliver 0 ∷ [])
+      ≡ Reply.Started 1 ∷ Reply.Declined Refusal.NoRoom ∷ Reply.Done ∷ []
