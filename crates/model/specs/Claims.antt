@@ -95,7 +95,7 @@ module _ {F : Type 0} (h : History F) where
   Plays x [] = Unit {0}
   Plays x (n ∷ row) = ((y : Held F) × Writes h n y × Plays y row) ⊎ (Shows h n x × Plays x row)
 
--- Those operations, each once, in an order that keeps that of time, and in which each read shows the last write before it.
+-- Those operations, each once, in an order that keeps that of time and in which each read shows the last write before.
 pub record Row {F : Type 0} (start : F) (h : History F) : Type 0 where
   pub row : List ℕ
   pub once : Once row
@@ -109,7 +109,8 @@ pub record Row {F : Type 0} (start : F) (h : History F) : Type 0 where
 -- No call of this sort took hold of a message of operation n.
 abbrev pub Spared : {F : Type 0} → (ℕ → Call F) → History F → ℕ → Type 0
 Spared {F} sort h n =
-    (m place : ℕ) (e : Event F) (a : Message F) → At h m e → e .call ≡ sort place → In a (e .taken) → a .operation ≡ n → ⊥
+    (m place : ℕ) (e : Event F) (a : Message F) → At h m e → e .call ≡ sort place → In a (e .taken)
+    → a .operation ≡ n → ⊥
 
 abbrev pub Undropped : {F : Type 0} → History F → ℕ → Type 0
 Undropped = Spared (λ place. Call.Drop place)
@@ -169,4 +170,5 @@ pub record Served {F : Type 0} (rule : Rule) (start : F) (h : History F) (s : St
 -- Every history of every register over figures of the type F is served, under every lawful rule.
 abbrev pub Serves : Type 0 → Type 0
 Serves F =
-    (rule : Rule) → Lawful rule → (start : F) (h : History F) (s : State F) → Grows rule start h s → Served rule start h s
+    (rule : Rule) → Lawful rule → (start : F) (h : History F) (s : State F) → Grows rule start h s
+    → Served rule start h s

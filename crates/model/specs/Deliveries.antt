@@ -16,8 +16,8 @@ use Rattle.model.specs.declared.messages.Message.{Message}
 use Rattle.model.specs.declared.answers.Reply.{Reply}
 use Rattle.model.specs.State.{State, Held, index, unused, new-message, reader, line, mark, held, halted}
 use Rattle.model.specs.State.{with-writer, with-reader, with-mark, with-journal, with-held}
-use Rattle.model.specs.Records.{took, acknowledged, writer-freed, best, heard, confirmed, lowered, placing, reader-freed}
-use Rattle.model.specs.Records.{marked, mark-replied, one-more, ended}
+use Rattle.model.specs.Records.{took, acknowledged, writer-freed, best, heard, confirmed, lowered, placing}
+use Rattle.model.specs.Records.{reader-freed, marked, mark-replied, one-more, ended}
 
 -- What a step comes to: its answer, the messages that it sends, and the state before these join the others.
 pub record Effect (F : Type 0) : Type 0 where

@@ -12,7 +12,7 @@ use Rattle.model.specs.declared.answers.Refusal.{Refusal}
 use Rattle.model.specs.State.{fresh}
 use Rattle.model.specs.History.{run, replies}
 
--- What a list of calls is answered on a newly commissioned register, with so many readers and room for so many messages.
+-- The answers to a list of calls on a newly commissioned register for so many readers and waiting messages.
 abbrev pub answers : {F : Type 0} → Rule → F → ℕ → ℕ → List (Call F) → List (Reply F)
 answers rule start readers message-room calls =
     replies ((run rule (fresh rule start readers message-room 256) calls) .history)
