@@ -90,21 +90,21 @@ module _ {F : Type 0} (q : Rule) (R : ℕ) (law : Lawful q) (start : F) (w : Wor
         write-value = λ _ _. line-is ∙ value-is;
       }
 
-      in-book : pred j < length (s .journal)
-      in-book = omega (arith, g .core .op j .counted born, g .core .op j .named born, g .count-is)
+      has-line : pred j < length (s .journal)
+      has-line = omega (arith, g .core .op j .counted born, g .core .op j .named born, g .count-is)
 
       lines₃ : (i : ℕ) → LineGood v₃ (v₃ .ops i) (getD (set (s .journal) (pred j) nl) (pred i) (no-line (s .start)))
       lines₃ =
           put-each (λ i o. LineGood v₃ o (getD (set (s .journal) (pred j) nl) (pred i) (no-line (s .start)))) (w .ops)
           j E
-          (subst (LineGood v₃ E) (sym (get-set (s .journal) (pred j) nl (no-line (s .start)) in-book)) line-new)
+          (subst (LineGood v₃ E) (sym (get-set (s .journal) (pred j) nl (no-line (s .start)) has-line)) line-new)
           (λ i n. elim (cases-eq ((w .ops i) .stage) 0) [
             | inl e ↦ line-none v₃ (w .ops i) _ e
             | inr p ↦
                 let ni = g .core .op i .named (omega arith) in
                 let nj = g .core .op j .named born in
                 each-set (λ k y. k ≡ pred i → LineGood v₃ (w .ops i) y) (s .journal) (pred j) nl _
-                (λ e. absurd (n (omega arith))) (λ u. absurd (omega (arith, in-book)))
+                (λ e. absurd (n (omega arith))) (λ u. absurd (omega (arith, has-line)))
                 (λ k _ e. subst (λ k. LineGood v₃ (w .ops i) (getD (s .journal) k (no-line (s .start)))) (sym e)
                 (line-later q R start w v₃ up₃ (g .core) i (line s i) (g .lines i)))
                 (pred i) refl
