@@ -1,4 +1,2 @@
 pub mod Limited
-pub mod Parting
-pub mod Placed
-pub mod Spelling
+pub mod ReadBack

@@ -7,7 +7,7 @@ use native.Mathlib.Omega.{arith}
 use lib.Dec.{leb}
 use Rattle.std.specs.declared.option.Option.{Option}
 use Rattle.std.specs.declared.option.Option.the-variants.{Some, None}
-use Rattle.figure.specs.Partial.{if-within, within-by}
+use Rattle.text.specs.Partial.{if-within, within-by}
 
 within-is : {A : Type 0} (n limit : ℕ) (make : n ≤ limit → A) (p : n ≤ limit) (t : Bool) (e : leb n limit ≡ t) → Some (make p) ≡ within-by n limit make t e
 within-is n limit make p true e = ap (λ q. Some (make q)) (le-prop p (leb-true n limit e))

@@ -1,9 +1,6 @@
-pub mod Cursors
+pub mod Examples
 pub mod Faults
-pub mod Fields
 pub mod Limits
-pub mod Numbers
 pub mod Orders
-pub mod Partial
-pub mod Printing
 pub mod Tides
+pub mod Room

@@ -3,8 +3,8 @@ use mathlib.Core.List.{List}
 use Prim.Native.Nat.{ℕ, zero-le}
 use lib.IntN.{ℤ, pos, natAbs}
 use Rattle.std.specs.declared.option.Option.{Option}
-use Rattle.figure.specs.Numbers.{spelled, spelled-signed}
-use Rattle.figure.specs.Partial.{and-then, if-within}
+use Rattle.text.specs.Numbers.{spelled, spelled-signed}
+use Rattle.text.specs.Partial.{and-then, if-within}
 use Rattle.figure.specs.declared.limits.UpTo.{UpTo}
 use Rattle.figure.specs.declared.limits.Level.{Level}
 

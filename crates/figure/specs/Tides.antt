@@ -7,7 +7,7 @@ use Rattle.std.specs.declared.option.Option.{Option}
 use Rattle.std.specs.declared.option.Option.the-variants.{Some, None}
 use Rattle.std.specs.declared.result.Result.{Result}
 use Rattle.std.specs.declared.result.Result.the-variants.{Ok, Err}
-use Rattle.figure.specs.Fields.{field-at}
+use Rattle.text.specs.Fields.{field-at}
 use Rattle.figure.specs.Limits.{Minute, up-to, up-to-zero, up-to-read, level-zero, level-of, level-read}
 use Rattle.figure.specs.declared.fault.FigureFault.{FigureFault}
 use Rattle.figure.specs.declared.fault.FigureFault.the-variants.{BadNumber}
@@ -36,6 +36,10 @@ tide-wanted fs = Ok 2
 abbrev pub tide-reading : List (List ℕ) → Result Tide FigureFault
 tide-reading fs = tide-from (level-read (field-at fs 0)) (up-to-read 1439 (field-at fs 1))
 
--- a tide as it is printed: level, tab, minute
+-- a level and a minute as they are printed, parted by a tab
+abbrev pub level-minute-shown : Level → Minute → List ℕ
+level-minute-shown level minute = (signed (level .mm) ++ (9 ∷ [])) ++ decimal (minute .value)
+
+-- a tide as it is printed
 abbrev pub tide-shown : Tide → List ℕ
-tide-shown t = (signed (t .level .mm) ++ (9 ∷ [])) ++ decimal (t .minute .value)
+tide-shown t = level-minute-shown (t .level) (t .minute)

@@ -3,11 +3,14 @@ ghost use mathlib.Core.List.{List};
 ghost use Prim.Native.Nat.{ℕ, _+_, _≤_};
 ghost use lib.ListN.{length};
 ghost use Rattle.std.specs.declared.result.Result.{Result as Outcome};
+ghost use Rattle.std.specs.declared.result.Result.the-variants.{Ok as Fine};
 ghost use Rattle.figure.specs.declared.fault.FigureFault.{FigureFault as Fault};
-ghost use Rattle.figure.specs.Cursors.{ahead};
-ghost use Rattle.figure.specs.Printing.{Printed, figure-room};
+ghost use Rattle.text.specs.Cursors.{ahead};
+ghost use Rattle.text.specs.Fields.{fields};
+ghost use Rattle.text.specs.Printing.{Printed};
+ghost use Rattle.figure.specs.Room.{figure-room};
 use crate::fault::FigureFault;
-use crate::fields::FieldCursor;
+use text::FieldCursor;
 
 /// A kind of figure: its word, the figure it starts with, and how its figures are read and printed.
 ///
@@ -28,10 +31,17 @@ pub trait FigureKind: Copy {
     // a figure as it is printed
     ghost shown: { Self → List ℕ };
 
+    // a line has room for every figure
     law short: { (f : Self) → length (shown f) ≤ figure-room };
 
+    // what is printed of a figure has as many fields as it must have
+    law counts_back: { (f : Self) → wanted (fields (shown f)) ≡ Fine (length (fields (shown f))) };
+
+    // and reads as that figure
+    law reads_back: { (f : Self) → reading (fields (shown f)) ≡ Fine f };
+
     /// The word that names the kind.
-    fn word<'a>() -> &'a [u8]
+    fn word<'a>() -> &'a str
         ensures { λ r. ⌜ now r ≡ named ⌝ };
 
     /// The figure before the first write.
@@ -40,12 +50,12 @@ pub trait FigureKind: Copy {
 
     /// How many fields the figure must have, or the fault in a field that fixes this. Whoever reads a figure compares
     /// this with `FieldCursor::count` before `read`.
-    fn word_count(fields: &FieldCursor<'_>) -> Result<usize, FigureFault>
-        ensures { λ r. ⌜ r ≡ wanted (ahead (now (fields .entry))) ⌝ };
+    fn word_count(cursor: &FieldCursor<'_>) -> Result<usize, FigureFault>
+        ensures { λ r. ⌜ r ≡ wanted (ahead (now (cursor .entry))) ⌝ };
 
     /// The figure that the fields to come say; a missing field reads as an empty one.
-    fn read(fields: FieldCursor<'_>) -> Result<Self, FigureFault>
-        ensures { λ r. ⌜ r ≡ reading (ahead (fields .entry)) ⌝ };
+    fn read(cursor: FieldCursor<'_>) -> Result<Self, FigureFault>
+        ensures { λ r. ⌜ r ≡ reading (ahead (cursor .entry)) ⌝ };
 
     /// Writes the figure at a place, and gives the place after it. There has to be room: a printer of a whole line
     /// tests its buffer once, and no figure takes more than 32 bytes.

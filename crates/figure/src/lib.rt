@@ -2,21 +2,16 @@
 //!
 //! A figure is a plain `Copy` value whose numbers lie in their ranges by its type. Each kind of figure is read from the
 //! fields of a line of text, which tabs part, and printed into a buffer; `FigureKind` is what both kinds share.
-//! The tools for fields, numbers and printing serve other readers and printers of lines too.
+mod examples;
 mod fault;
-mod fields;
 mod kind;
 mod limits;
-mod numbers;
 mod order;
-mod print;
 mod tide;
 
 pub use fault::FigureFault;
 pub use fault::FigureFaultDebug;
 pub use fault::FigureFaultPartialEq;
-pub use fields::FieldCursor;
-pub use fields::is_word;
 pub use kind::FigureKind;
 pub use limits::Depth;
 pub use limits::Level;
@@ -27,8 +22,6 @@ pub use limits::Section;
 pub use limits::UpTo;
 pub use limits::UpToDebug;
 pub use limits::UpToPartialEq;
-pub use numbers::number;
-pub use numbers::signed_number;
 pub use order::Arm;
 pub use order::ArmDebug;
 pub use order::ArmPartialEq;
@@ -36,9 +29,6 @@ pub use order::DigOrder;
 pub use order::DigOrderDebug;
 pub use order::DigOrderPartialEq;
 pub use order::OrderKind;
-pub use print::put_bytes;
-pub use print::put_number;
-pub use print::put_signed;
 pub use tide::Tide;
 pub use tide::TideDebug;
 pub use tide::TideKind;

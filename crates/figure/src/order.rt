@@ -5,19 +5,19 @@ ghost use lib.ListN.{length};
 ghost use Rattle.std.specs.declared.option.Option.the-variants.{Some as Just};
 ghost use Rattle.figure.specs.declared.order.DigOrder.the-variants.{Hold as HoldOrder};
 ghost use Rattle.figure.specs.Limits.{up-to};
-ghost use Rattle.figure.specs.Orders.{arm-of, verb-of, verb-fields, dig-from, shift-from, order-wanted, order-reading};
-ghost use Rattle.figure.specs.Orders.{arm-shown, dig-shown, shift-shown, order-shown};
-ghost use Rattle.figure.specs.Printing.{Printed};
+ghost use Rattle.figure.specs.Orders.{arm-of, verb-of, verb-fields, dig-from, shift-from};
+ghost use Rattle.figure.specs.Orders.{order-wanted, order-reading, arm-shown, dig-shown, shift-shown, order-shown};
+ghost use Rattle.text.specs.Printing.{Printed};
 use crate::fault::FigureFault;
-use crate::fields::FieldCursor;
-use crate::fields::is_word;
 use crate::kind::FigureKind;
 use crate::limits::Depth;
 use crate::limits::Section;
 use crate::limits::UpToDebug;
 use crate::limits::UpToPartialEq;
-use crate::print::put_bytes;
-use crate::print::put_number;
+use text::FieldCursor;
+use text::is_word;
+use text::put_bytes;
+use text::put_number;
 
 /// The arm that digs.
 #[derive(Clone, Copy, PartialEq, Debug)]
@@ -90,13 +90,13 @@ impl Arm {
     fn named(word: &[u8]) -> Option<Arm>
         ensures { λ r. ⌜ r ≡ arm-of (now (word .entry)) ⌝ }
     {
-        if is_word(word, b"port") {
+        if is_word(word, "port") {
             return Some(Arm::Port);
         }
-        if is_word(word, b"starboard") {
+        if is_word(word, "starboard") {
             return Some(Arm::Starboard);
         }
-        if is_word(word, b"both") {
+        if is_word(word, "both") {
             return Some(Arm::Both);
         }
         None
@@ -119,13 +119,13 @@ impl Verb {
     fn named(word: &[u8]) -> Result<Verb, FigureFault>
         ensures { λ r. ⌜ r ≡ verb-of (now (word .entry)) ⌝ }
     {
-        if is_word(word, b"hold") {
+        if is_word(word, "hold") {
             return Ok(Verb::Hold);
         }
-        if is_word(word, b"dig") {
+        if is_word(word, "dig") {
             return Ok(Verb::Dig);
         }
-        if is_word(word, b"shift") {
+        if is_word(word, "shift") {
             return Ok(Verb::Shift);
         }
         Err(FigureFault::UnknownWord { field: 0 })
@@ -154,32 +154,32 @@ pub impl FigureKind for DigOrder as OrderKind {
 
     ghost shown = { order-shown };
 
-    fn word<'a>() -> &'a [u8] {
-        b"order"
+    fn word<'a>() -> &'a str {
+        "order"
     }
 
     fn start() -> DigOrder {
-        DigOrder::Hold
+        Self::Hold
     }
 
-    fn word_count(fields: &FieldCursor<'_>) -> Result<usize, FigureFault> {
-        if fields.count() == 0 {
+    fn word_count(cursor: &FieldCursor<'_>) -> Result<usize, FigureFault> {
+        if cursor.count() == 0 {
             return Ok(1);
         }
-        let verb = Verb::named(fields.peek())?;
+        let verb = Verb::named(cursor.peek())?;
         Ok(verb.field_count())
     }
 
-    fn read(mut fields: FieldCursor<'_>) -> Result<DigOrder, FigureFault> {
-        let verb = Verb::named(fields.next_field())?;
+    fn read(mut cursor: FieldCursor<'_>) -> Result<DigOrder, FigureFault> {
+        let verb = Verb::named(cursor.next_field())?;
         match verb {
             Verb::Hold => Ok(DigOrder::Hold),
             Verb::Dig => {
-                let depth = Depth::read(fields.next_field());
-                let arm = Arm::named(fields.next_field());
+                let depth = Depth::read(cursor.next_field());
+                let arm = Arm::named(cursor.next_field());
                 DigOrder::join_dig(depth, arm)
             }
-            Verb::Shift => DigOrder::join_shift(Section::read(fields.next_field())),
+            Verb::Shift => DigOrder::join_shift(Section::read(cursor.next_field())),
         }
     }
 

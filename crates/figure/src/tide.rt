@@ -1,8 +1,11 @@
 ghost use mathlib.Core.Path.{_≡_};
+ghost use Prim.Native.Nat.{_+_, _≤_};
 ghost use lib.Chars.{codes};
-ghost use Rattle.figure.specs.Tides.{tide-from, tide-of, tide-start, tide-wanted, tide-reading, tide-shown};
+ghost use lib.ListN.{length};
+ghost use Rattle.text.specs.Printing.{Printed};
+ghost use Rattle.figure.specs.Tides.{tide-from, tide-of, tide-start, tide-wanted, tide-reading};
+ghost use Rattle.figure.specs.Tides.{tide-shown, level-minute-shown};
 use crate::fault::FigureFault;
-use crate::fields::FieldCursor;
 use crate::kind::FigureKind;
 use crate::limits::Level;
 use crate::limits::LevelDebug;
@@ -10,9 +13,10 @@ use crate::limits::LevelPartialEq;
 use crate::limits::Minute;
 use crate::limits::UpToDebug;
 use crate::limits::UpToPartialEq;
-use crate::print::put_bytes;
-use crate::print::put_number;
-use crate::print::put_signed;
+use text::FieldCursor;
+use text::put_bytes;
+use text::put_number;
+use text::put_signed;
 
 /// A water level and the minute of the day at which it was read.
 #[derive(Clone, Copy, PartialEq, Debug)]
@@ -54,8 +58,8 @@ pub impl FigureKind for Tide as TideKind {
 
     ghost shown = { tide-shown };
 
-    fn word<'a>() -> &'a [u8] {
-        b"tide"
+    fn word<'a>() -> &'a str {
+        "tide"
     }
 
     fn start() -> Tide {
@@ -65,19 +69,27 @@ pub impl FigureKind for Tide as TideKind {
         }
     }
 
-    fn word_count(_fields: &FieldCursor<'_>) -> Result<usize, FigureFault> {
+    fn word_count(_cursor: &FieldCursor<'_>) -> Result<usize, FigureFault> {
         Ok(2)
     }
 
-    fn read(mut fields: FieldCursor<'_>) -> Result<Tide, FigureFault> {
-        let level = Level::read(fields.next_field());
-        let minute = Minute::read(fields.next_field());
+    fn read(mut cursor: FieldCursor<'_>) -> Result<Tide, FigureFault> {
+        let level = Level::read(cursor.next_field());
+        let minute = Minute::read(cursor.next_field());
         Tide::join(level, minute)
     }
 
     fn print(self, buffer: &mut [u8], at: usize) -> usize {
-        let at = put_signed(buffer, at, self.level.mm());
-        let at = put_bytes(buffer, at, b"\t");
-        put_number(buffer, at, self.minute.get())
+        put_tide(buffer, at, self.level, self.minute)
     }
+}
+
+// Writes a level and a minute at a place, and gives the place after them.
+fn put_tide(buffer: &mut [u8], at: usize, level: Level, minute: Minute) -> usize
+    requires { ⌜ at + length (level-minute-shown level minute) ≤ length (now buffer) ⌝ }
+    ensures { λ r. ⌜ Printed (now (buffer .entry)) at (level-minute-shown level minute) (now (buffer .exit)) r ⌝ }
+{
+    let at = put_signed(buffer, at, level.mm());
+    let at = put_bytes(buffer, at, b"\t");
+    put_number(buffer, at, minute.get())
 }

@@ -1,13 +1,18 @@
 ghost use mathlib.Core.Path.{_≡_};
+ghost use Prim.Native.Nat.{_≤_};
+ghost use Rattle.std.specs.declared.option.Option.the-variants.{Some as Just};
 ghost use Rattle.figure.specs.Limits.{up-to-zero, up-to, up-to-read, level-zero, level-of, level-read};
 use super::Level;
 use super::UpTo;
-use crate::numbers::number;
-use crate::numbers::signed_number;
+use text::number;
+use text::signed_number;
+
+// The most that a level is above or below the datum, in mm.
+const FARTHEST: u32 = 20_000;
 
 impl<const MAX: u32> UpTo<MAX> {
     /// The number 0, which is within every limit.
-    pub fn zero() -> UpTo<MAX>
+    pub(crate) fn zero() -> UpTo<MAX>
         ensures { λ r. ⌜ r ≡ up-to-zero MAX ⌝ }
     {
         UpTo { value: 0 }
@@ -20,11 +25,19 @@ impl<const MAX: u32> UpTo<MAX> {
         if value > MAX {
             return None;
         }
-        Some(UpTo { value })
+        Some(UpTo::within(value))
+    }
+
+    // The number itself, which is within the limit.
+    fn within(value: u32) -> UpTo<MAX>
+        requires { ⌜ value ≤ MAX ⌝ }
+        ensures { λ r. ⌜ Just r ≡ up-to MAX value ⌝ }
+    {
+        UpTo { value }
     }
 
     /// The number that a field spells, if it spells one within the limit.
-    pub fn read(field: &[u8]) -> Option<UpTo<MAX>>
+    pub(crate) fn read(field: &[u8]) -> Option<UpTo<MAX>>
         ensures { λ r. ⌜ r ≡ up-to-read MAX (now (field .entry)) ⌝ }
     {
         UpTo::new(number(field)?)
@@ -40,7 +53,7 @@ impl<const MAX: u32> UpTo<MAX> {
 
 impl Level {
     /// The level 0.
-    pub fn zero() -> Level
+    pub(crate) fn zero() -> Level
         ensures { λ r. ⌜ r ≡ level-zero ⌝ }
     {
         Level { mm: 0 }
@@ -50,14 +63,14 @@ impl Level {
     pub fn new(mm: i32) -> Option<Level>
         ensures { λ r. ⌜ r ≡ level-of mm ⌝ }
     {
-        if mm.unsigned_abs() > 20000 {
+        if mm.unsigned_abs() > FARTHEST {
             return None;
         }
         Some(Level { mm })
     }
 
     /// The level that a field spells, if it spells one within the range.
-    pub fn read(field: &[u8]) -> Option<Level>
+    pub(crate) fn read(field: &[u8]) -> Option<Level>
         ensures { λ r. ⌜ r ≡ level-read (now (field .entry)) ⌝ }
     {
         Level::new(signed_number(field)?)

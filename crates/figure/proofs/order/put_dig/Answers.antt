@@ -2,7 +2,7 @@ use mathlib.Core.Path.{ap}
 use native.Mathlib.Omega.{arith}
 use lib.ListN.{length, length-append}
 use Rattle.std.specs.Written.{decimal}
-use Rattle.figure.proofs.Placed.{then-put, printed-as}
+use Rattle.text.proofs.Placed.{then-put, printed-as}
 use Rattle.figure.proofs.order.put_dig.Needs as need
 
 pub put-number-at-requires : need.put-number-at-requires

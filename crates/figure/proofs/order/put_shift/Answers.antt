@@ -3,7 +3,7 @@ use native.Mathlib.Omega.{arith}
 use lib.Chars.{codes}
 use lib.ListN.{length-append}
 use Rattle.std.specs.Written.{decimal}
-use Rattle.figure.proofs.Placed.{then-put, printed-as}
+use Rattle.text.proofs.Placed.{then-put, printed-as}
 use Rattle.figure.proofs.order.put_shift.Needs as need
 
 pub returns : need.returns

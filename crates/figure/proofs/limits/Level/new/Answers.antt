@@ -8,8 +8,8 @@ use Rattle.figure.specs.Limits.{level-of}
 use Rattle.figure.proofs.Limited.{within, beyond}
 use Rattle.figure.proofs.limits.Level.new.Needs as need
 
-pub returns-then-unsigned-abs-gt20000 : need.returns-then-unsigned-abs-gt20000
-returns-then-unsigned-abs-gt20000 c =
+pub returns-then-unsigned-abs-gt-FARTHEST : need.returns-then-unsigned-abs-gt-FARTHEST
+returns-then-unsigned-abs-gt-FARTHEST c =
     let z = c .args .mm in
     let back : toZ w32 (ofZ w32 z) ≡ z = toZ-ofZ w32 z (c .fits .mm) in
     let size : c .unsigned-abs .result ≡ natAbs z = rw back at (c .unsigned-abs .ensures .value) in

@@ -1,9 +1,0 @@
--- What a cursor over the fields of a line stands for.
-use mathlib.Core.List.{List}
-use Prim.Native.Nat.{ℕ}
-use Rattle.figure.specs.Fields.{pending}
-use Rattle.figure.specs.declared.fields.FieldCursor.{FieldCursor}
-
--- the fields still to come
-abbrev pub ahead : FieldCursor → List (List ℕ)
-ahead cursor = pending (cursor .rest)

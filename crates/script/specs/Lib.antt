@@ -1,0 +1,5 @@
+pub mod Faults
+pub mod Words
+pub mod Headers
+pub mod Openings
+pub mod Answers
