@@ -18,6 +18,7 @@ use Rattle.model.specs.declared.journal.ReadKind.{ReadKind}
 use Rattle.model.specs.declared.journal.OperationKind.{OperationKind}
 use Rattle.model.specs.declared.calls.Call.{Call}
 use Rattle.model.specs.declared.answers.Reply.{Reply}
+use Rattle.model.specs.declared.answers.Refusal.{Refusal}
 use Rattle.model.specs.Stamps.{Stamp}
 use Rattle.model.specs.State.{State, Held, unused, line, halted}
 use Rattle.model.specs.History.{Event, History, Grows}
@@ -159,6 +160,14 @@ pub record Limits {F : Type 0} (rule : Rule) (h : History F) (s : State F) : Typ
   pub bounded : (m n : ℕ) (owner : Party) (kind : OperationKind) → Starts h m n owner kind
       → Uncopied h n → (line s n) .sent ≤ limit (rule .size) kind
 
+-- SOUND TABLES
+
+-- No call was declined for unsound tables, and none for a message with a stamp above the writer's last.
+abbrev pub Undisturbed : {F : Type 0} → History F → Type 0
+Undisturbed {F} h =
+    (m : ℕ) (e : Event F) → At h m e
+    → (e .reply ≡ Reply.Declined Refusal.Unsound → ⊥) × (e .reply ≡ Reply.Declined Refusal.StampAhead → ⊥)
+
 -- ALL OF IT
 
 pub record Served {F : Type 0} (rule : Rule) (start : F) (h : History F) (s : State F) : Type 0 where
@@ -166,6 +175,7 @@ pub record Served {F : Type 0} (rule : Rule) (start : F) (h : History F) (s : St
   pub row : Row start h
   pub finishing : Finishing rule h s
   pub limits : Limits rule h s
+  pub undisturbed : Undisturbed h
 
 -- Every history of every register over figures of the type F is served, under every lawful rule.
 abbrev pub Serves : Type 0 → Type 0

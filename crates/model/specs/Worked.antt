@@ -17,6 +17,23 @@ abbrev pub answers : {F : Type 0} → Rule → F → ℕ → ℕ → List (Call 
 answers rule start readers message-room calls =
     replies ((run rule (fresh rule start readers message-room 256) calls) .history)
 
+-- The calls of examples/first.script.
+abbrev pub first-script : ℕ → ℕ → List (Call ℕ)
+first-script first second =
+    Call.Write first
+    ∷ Call.Deliver 0
+    ∷ Call.Read 0 ReadKind.Quick
+    ∷ Call.Deliver 3
+    ∷ Call.Deliver 3
+    ∷ Call.Deliver 4
+    ∷ Call.Deliver 4
+    ∷ Call.Deliver 4
+    ∷ Call.Deliver 4
+    ∷ Call.Deliver 5
+    ∷ Call.Deliver 5
+    ∷ Call.Write second
+    ∷ []
+
 pub record Worked-examples : Type 0 where
   pub rules : Rule-examples
   -- one replica: a relay read and three deliveries show the start, with 3 messages sent and after 3 exchanges
@@ -28,3 +45,19 @@ pub record Worked-examples : Type 0 where
   pub five-places : (start figure : ℕ)
       → answers (count-rule 3 1) start 1 5 (Call.Write figure ∷ Call.Read 0 ReadKind.Quick ∷ Call.Deliver 0 ∷ [])
       ≡ Reply.Started 1 ∷ Reply.Declined Refusal.NoRoom ∷ Reply.Done ∷ []
+  -- three replicas: a quick read meets a write that one replica has, and puts it back before it shows it
+  pub listing : (start first second : ℕ)
+      → answers (count-rule 3 1) start 2 1024 (first-script first second)
+      ≡ Reply.Started 1
+      ∷ Reply.Done
+      ∷ Reply.Started 2
+      ∷ Reply.Done
+      ∷ Reply.Done
+      ∷ Reply.Done
+      ∷ Reply.Done
+      ∷ Reply.Done
+      ∷ Reply.Done
+      ∷ Reply.Done
+      ∷ Reply.Finished 2 1 first 10 4
+      ∷ Reply.Declined Refusal.Busy
+      ∷ []
