@@ -159,7 +159,7 @@ pub impl FigureKind for DigOrder as OrderKind {
     }
 
     fn start() -> DigOrder {
-        DigOrder::Hold
+        Self::Hold
     }
 
     fn word_count(cursor: &FieldCursor<'_>) -> Result<usize, FigureFault> {
