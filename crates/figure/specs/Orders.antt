@@ -12,7 +12,7 @@ use Rattle.std.specs.declared.result.Result.{Result}
 use Rattle.std.specs.declared.result.Result.the-variants.{Ok, Err}
 use Rattle.std.specs.shelf.Text.{sameBytes}
 use Rattle.text.specs.Fields.{field-at}
-use Rattle.figure.specs.Limits.{Depth, Section, up-to, up-to-read}
+use Rattle.figure.specs.Limits.{Depth, Section, up-to-read}
 use Rattle.text.specs.Partial.{ok-then}
 use Rattle.figure.specs.declared.fault.FigureFault.{FigureFault}
 use Rattle.figure.specs.declared.fault.FigureFault.the-variants.{UnknownWord, BadNumber}

@@ -1,6 +1,7 @@
-use mathlib.Core.Bool.{Bool, true, false, cond}
+-- How tabs part a text into fields.
+use mathlib.Core.Bool.{true, false, cond}
 use mathlib.Core.Path.{_≡_, refl, sym, ap, _∙_}
-use mathlib.Core.List.{List, [], _∷_}
+use mathlib.Core.List.{List, [], _∷_, _++_}
 use Prim.Native.Nat.{ℕ, zero, suc, _+_, _<_, _≤_}
 use native.Mathlib.Omega.{arith}
 use native.Mathlib.Numerals.{add-one}
@@ -8,6 +9,7 @@ use lib.Dec.{eqb}
 use lib.ListN.{length, getD, take, drop}
 use lib.Seq.{drop-cons}
 use borrow.Author.Tests.{eq-eqb, ne-eqb}
+use Rattle.std.proofs.shelf.Lists.{take-all, take-append-drop}
 use Rattle.text.specs.Fields.{fields, onto}
 
 pub fields-plain : (c : ℕ) (cs : List ℕ) → (c ≡ 9 → ⊥) → fields (c ∷ cs) ≡ onto c (fields cs)
@@ -16,17 +18,41 @@ fields-plain c cs h = rw (ne-eqb c 9 h)
 pub fields-tab : (c : ℕ) (cs : List ℕ) → c ≡ 9 → fields (c ∷ cs) ≡ [] ∷ fields cs
 fields-tab c cs h = rw (eq-eqb c 9 h)
 
--- a text with no tab is its one field
-pub one-field : (l : List ℕ) → ((k : ℕ) → k < length l → getD l k 0 ≡ 9 → ⊥) → fields l ≡ l ∷ []
-one-field [] h = refl
-one-field (c ∷ cs) h = fields-plain c cs (h 0 (omega arith)) ∙ ap (onto c) (one-field cs (λ k lt e. h (suc k) (omega arith) e))
+-- a text without a tab
+abbrev pub Tabless : List ℕ → Type 0
+Tabless [] = Unit {0}
+Tabless (c ∷ cs) = (c ≡ 9 → ⊥) × Tabless cs
+
+-- a text without a tab, a tab and what follows it
+pub fields-then : (a b : List ℕ) → Tabless a → fields (a ++ (9 ∷ b)) ≡ a ∷ fields b
+fields-then [] b t = refl
+fields-then (c ∷ cs) b t = fields-plain c (cs ++ (9 ∷ b)) (t .0) ∙ ap (onto c) (fields-then cs b (t .1))
+
+-- a text without a tab is its one field
+pub fields-last : (a : List ℕ) → Tabless a → fields a ≡ a ∷ []
+fields-last [] t = refl
+fields-last (c ∷ cs) t = fields-plain c cs (t .0) ∙ ap (onto c) (fields-last cs (t .1))
+
+-- no tab stands below an index
+abbrev pub TablessTo : List ℕ → ℕ → Type 0
+TablessTo l n = (k : ℕ) → k < n → getD l k 0 ≡ 9 → ⊥
+
+tabless-take : (l : List ℕ) (n : ℕ) → TablessTo l n → Tabless (take n l)
+tabless-take l zero b = tt
+tabless-take [] (suc n) b = tt
+tabless-take (c ∷ cs) (suc n) b = (b 0 (omega arith), tabless-take cs n (λ k lt. b (suc k) (omega arith)))
+
+-- where no tab is found, the text is one field
+pub one-field : (l : List ℕ) (n : ℕ) → length l ≤ n → TablessTo l n → fields l ≡ l ∷ []
+one-field l n h b = rw (take-all n l h) at (fields-last (take n l) (tabless-take l n b))
 
 -- the first tab ends the first field
-pub first-field : (l : List ℕ) (n : ℕ) → ((k : ℕ) → k < n → getD l k 0 ≡ 9 → ⊥) → n < length l → getD l n 0 ≡ 9 → fields l ≡ take n l ∷ fields (drop (suc n) l)
-first-field [] n b h e = absurd (omega arith)
-first-field (c ∷ cs) zero b h e = fields-tab c cs e
-first-field (c ∷ cs) (suc n) b h e =
-    fields-plain c cs (b 0 (omega arith)) ∙ ap (onto c) (first-field cs n (λ k lt. b (suc k) (omega arith)) (omega arith) e)
+pub first-field : (l : List ℕ) (n : ℕ) → TablessTo l n → n < length l → getD l n 0 ≡ 9
+    → fields l ≡ take n l ∷ fields (drop (suc n) l)
+first-field l n b h e =
+    let rest : 9 ∷ drop (suc n) l ≡ drop n l = ap (λ c. c ∷ drop (suc n) l) (sym e) ∙ sym (drop-cons l n 0 h) in
+    let whole : take n l ++ (9 ∷ drop (suc n) l) ≡ l = ap (λ x. take n l ++ x) rest ∙ take-append-drop n l in
+    ap fields (sym whole) ∙ fields-then (take n l) (drop (suc n) l) (tabless-take l n b)
 
 length-onto : (c : ℕ) (fs : List (List ℕ)) → 0 < length fs → length (onto c fs) ≡ length fs
 length-onto c [] h = absurd (omega arith)
@@ -39,15 +65,23 @@ onto-some c (f ∷ fs) = omega arith
 pub fields-some : (l : List ℕ) → 0 < length (fields l)
 fields-some [] = omega arith
 fields-some (c ∷ cs) =
-    elim (eqb c 9) as (λ t. 0 < length (cond t ([] ∷ fields cs) (onto c (fields cs)))) [ true ↦ omega arith | false ↦ onto-some c (fields cs) ]
+    elim (eqb c 9) as (λ t. 0 < length (cond t ([] ∷ fields cs) (onto c (fields cs)))) [
+      | true ↦ omega arith
+      | false ↦ onto-some c (fields cs)
+    ]
 
 -- a tab begins one field more
-pub count-at : (l : List ℕ) (i : ℕ) → i < length l → getD l i 0 ≡ 9 → length (fields (drop i l)) ≡ length (fields (drop (i + 1) l)) + 1
+pub count-at : (l : List ℕ) (i : ℕ) → i < length l → getD l i 0 ≡ 9
+    → length (fields (drop i l)) ≡ length (fields (drop (i + 1) l)) + 1
 count-at l i h e =
-    rw (add-one i) (ap (λ x. length (fields x)) (drop-cons l i 0 h) ∙ ap length (fields-tab (getD l i 0) (drop (suc i) l) e) ∙ omega arith)
+    rw (add-one i)
+    (ap (λ x. length (fields x)) (drop-cons l i 0 h)
+    ∙ ap length (fields-tab (getD l i 0) (drop (suc i) l) e)
+    ∙ omega arith)
 
 -- any other byte begins none
-pub count-not : (l : List ℕ) (i : ℕ) → i < length l → (getD l i 0 ≡ 9 → ⊥) → length (fields (drop i l)) ≡ length (fields (drop (i + 1) l))
+pub count-not : (l : List ℕ) (i : ℕ) → i < length l → (getD l i 0 ≡ 9 → ⊥)
+    → length (fields (drop i l)) ≡ length (fields (drop (i + 1) l))
 count-not l i h e =
     rw (add-one i)
     (ap (λ x. length (fields x)) (drop-cons l i 0 h) ∙ ap length (fields-plain (getD l i 0) (drop (suc i) l) e)

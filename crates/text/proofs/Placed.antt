@@ -1,10 +1,10 @@
-use mathlib.Core.Path.{_≡_, refl, sym, ap, subst, _∙_}
+-- Bytes written into a buffer, one part after another.
+use mathlib.Core.Path.{_≡_, sym, ap, subst, _∙_}
 use mathlib.Core.List.{List, [], _∷_, _++_, append-assoc}
-use Prim.Native.Nat.{ℕ, zero, suc, _+_, _-_, _<_, _≤_}
-use native.Mathlib.Nat.{add-assoc}
+use Prim.Native.Nat.{ℕ, _+_, _<_, _≤_}
 use native.Mathlib.Numerals.{add-one}
 use native.Mathlib.Omega.{arith}
-use lib.ListN.{length, take, drop, set, length-append, length-drop}
+use lib.ListN.{length, take, drop, set, length-append}
 use lib.Seq.{length-take-le}
 use Rattle.std.proofs.shelf.Lists.{set-split, take-at, drop-at, drop-drop}
 use Rattle.text.specs.Printing.{put, Printed}
@@ -17,7 +17,8 @@ front : (xs : List ℕ) (at : ℕ) (bs : List ℕ) → at + length bs ≤ length
 front xs at bs h = length-append (take at xs) bs ∙ ap (λ n. n + length bs) (length-take-le at xs (omega arith))
 
 -- a text written, and another after it
-pub put-put : (xs : List ℕ) (at : ℕ) (bs cs : List ℕ) → at + length bs ≤ length xs → put (put xs at bs) (at + length bs) cs ≡ put xs at (bs ++ cs)
+pub put-put : (xs : List ℕ) (at : ℕ) (bs cs : List ℕ) → at + length bs ≤ length xs
+    → put (put xs at bs) (at + length bs) cs ≡ put xs at (bs ++ cs)
 put-put xs at bs cs h =
     let a = take at xs in
     let n = at + length bs in
@@ -34,20 +35,15 @@ put-put xs at bs cs h =
     ∙ ap (λ x. a ++ x) (sym (append-assoc bs cs (drop (n + length cs) xs)))
     ∙ ap (λ m. a ++ ((bs ++ cs) ++ drop m xs)) s
 
--- writing changes no length
-pub length-placed : (xs : List ℕ) (at : ℕ) (bs : List ℕ) → at + length bs ≤ length xs → length (put xs at bs) ≡ length xs
-length-placed xs at bs h =
-    let l = length-append (take at xs) (bs ++ drop (at + length bs) xs) in
-    let m = length-append bs (drop (at + length bs) xs) in
-    let t = length-take-le at xs (omega arith) in
-    let d = length-drop (at + length bs) xs in
-    omega arith
-
 -- what two writes, one after the other, come to
-pub then-put : {xs ys zs bs cs : List ℕ} {at m n : ℕ} → at + length bs ≤ length xs → Printed xs at bs ys m → Printed ys m cs zs n → Printed xs at (bs ++ cs) zs n
+pub then-put : {xs ys zs bs cs : List ℕ} {at m n : ℕ} → at + length bs ≤ length xs
+    → Printed xs at bs ys m → Printed ys m cs zs n → Printed xs at (bs ++ cs) zs n
 then-put {xs = xs} {bs = bs} {cs = cs} {at = at} {m = m} h p q =
     record {
-      all = q .all ∙ ap (λ x. put x m cs) (p .all) ∙ ap (λ x. put (put xs at bs) x cs) (p .stop) ∙ put-put xs at bs cs h;
+      all = q .all
+          ∙ ap (λ x. put x m cs) (p .all)
+          ∙ ap (λ x. put (put xs at bs) x cs) (p .stop)
+          ∙ put-put xs at bs cs h;
       stop = omega (arith, p .stop, q .stop, length-append bs cs);
     }
 

@@ -1,5 +1,6 @@
-use mathlib.Core.Bool.{Bool, true, false}
-use mathlib.Core.Path.{_≡_, refl, sym, ap, subst, _∙_}
+-- What is printed reads back.
+use mathlib.Core.Bool.{false}
+use mathlib.Core.Path.{_≡_, refl, sym, ap, _∙_}
 use mathlib.Core.List.{List, [], _∷_, _++_}
 use Prim.Native.Nat.{ℕ, suc, _+_, _*_, _/_, _%_, _<_, _≤_, _^_}
 use borrow.Author.Tests.{le-leb, ne-eqb}
@@ -11,26 +12,10 @@ use Rattle.std.specs.Options.{mapped}
 use Rattle.std.specs.Written.{decimal, signed}
 use Rattle.std.specs.declared.option.Option.{Option}
 use Rattle.std.specs.declared.option.Option.the-variants.{Some, None}
-use Rattle.text.specs.Fields.{fields, onto}
 use Rattle.text.specs.Numbers.{digit-of, spelled-on, spelled, minus-first, spelled-signed}
 use Rattle.text.specs.Partial.{and-then}
-use Rattle.text.proofs.Parting.{fields-plain}
+use Rattle.text.proofs.Parting.{Tabless}
 use Rattle.text.proofs.Spelling.{spelled-is}
-
--- a text without a tab
-abbrev pub Tabless : List ℕ → Type 0
-Tabless [] = Unit {0}
-Tabless (c ∷ cs) = (c ≡ 9 → ⊥) × Tabless cs
-
--- a text without a tab, a tab and what follows it
-pub fields-then : (a b : List ℕ) → Tabless a → fields (a ++ (9 ∷ b)) ≡ a ∷ fields b
-fields-then [] b t = refl
-fields-then (c ∷ cs) b t = fields-plain c (cs ++ (9 ∷ b)) (t .0) ∙ ap (onto c) (fields-then cs b (t .1))
-
--- a text without a tab is its one field
-pub fields-last : (a : List ℕ) → Tabless a → fields a ≡ a ∷ []
-fields-last [] t = refl
-fields-last (c ∷ cs) t = fields-plain c cs (t .0) ∙ ap (onto c) (fields-last cs (t .1))
 
 never : {m : ℕ} → None ≡ Some m → ⊥
 never e = let z : _≡_ {A = ℕ} 0 1 = cc in omega arith
@@ -39,7 +24,8 @@ never e = let z : _≡_ {A = ℕ} 0 1 = cc in omega arith
 spelled-append : (n m : ℕ) (a b : List ℕ) → spelled-on n a ≡ Some m → spelled-on n (a ++ b) ≡ spelled-on m b
 spelled-append n m [] b e = let k : n ≡ m = cc in ap (λ x. spelled-on x b) k
 spelled-append n m (c ∷ cs) b e =
-    elim (digit-of c) as (λ (o : Option ℕ). and-then o (λ d. spelled-on (n * 10 + d) cs) ≡ Some m → and-then o (λ d. spelled-on (n * 10 + d) (cs ++ b)) ≡ spelled-on m b) [
+    elim (digit-of c) as (λ (o : Option ℕ). and-then o (λ d. spelled-on (n * 10 + d) cs) ≡ Some m
+    → and-then o (λ d. spelled-on (n * 10 + d) (cs ++ b)) ≡ spelled-on m b) [
       | None ↦ λ h. absurd (never h)
       | Some d ↦ λ h. spelled-append (n * 10 + d) m cs b h
     ] e
@@ -58,7 +44,9 @@ decimal-spells : (n : ℕ) → n < 2 ^ 64 → spelled-on 0 (decimal n) ≡ Some 
 decimal-spells =
     decimal-by-steps (λ n ds. spelled-on 0 ds ≡ Some n)
     (λ n h. one-digit 0 n h ∙ ap Some (omega arith))
-    (λ n ds h e. spelled-append 0 (n / 10) ds ((48 + n % 10) ∷ []) e ∙ one-digit (n / 10) (n % 10) (omega arith) ∙ ap Some (omega arith))
+    (λ n ds h e. spelled-append 0 (n / 10) ds ((48 + n % 10) ∷ []) e
+    ∙ one-digit (n / 10) (n % 10) (omega arith)
+    ∙ ap Some (omega arith))
 
 -- and as a field, if they are at most six
 pub spelled-decimal : (n : ℕ) → n < 1000000 → spelled (decimal n) ≡ Some n

@@ -1,12 +1,12 @@
+-- Digits and the numbers that they spell.
 use mathlib.Core.Bool.{true}
 use mathlib.Core.Path.{_≡_, refl, sym, ap, _∙_}
-use mathlib.Core.List.{List, [], _∷_, _++_}
+use mathlib.Core.List.{List, _∷_, _++_}
 use Prim.Native.Nat.{ℕ, _+_, _*_, _/_, _%_, _<_, _≤_, _^_}
 use borrow.Author.Tests.{le-leb, ltb-true}
 use native.Mathlib.Nat.{pow-suc}
 use native.Mathlib.Numerals.{add-one}
 use native.Mathlib.Omega.{arith}
-use lib.Dec.{leb}
 use lib.IntN.{ℤ, pos, negsuc, natAbs}
 use lib.ListN.{length, getD, drop}
 use lib.Seq.{drop-cons}
@@ -15,12 +15,13 @@ use Rattle.std.proofs.shelf.Decimals.{decimal-digit, decimal-step}
 use Rattle.std.proofs.shelf.Lists.{drop-all}
 use Rattle.std.specs.Written.{decimal, signed}
 use Rattle.std.specs.declared.option.Option.{Option}
-use Rattle.std.specs.declared.option.Option.the-variants.{Some, None}
+use Rattle.std.specs.declared.option.Option.the-variants.{Some}
 use Rattle.text.specs.Numbers.{digit-of, spelled-on, spelled}
 use Rattle.text.specs.Partial.{and-then}
 
 -- the byte at a place, and what the digits from there on spell
-pub spelled-more : (n : ℕ) (xs : List ℕ) (i : ℕ) → i < length xs → (o : Option ℕ) → o ≡ digit-of (getD xs i 0) → and-then o (λ d. spelled-on (n * 10 + d) (drop (i + 1) xs)) ≡ spelled-on n (drop i xs)
+pub spelled-more : (n : ℕ) (xs : List ℕ) (i : ℕ) → i < length xs → (o : Option ℕ) → o ≡ digit-of (getD xs i 0)
+    → and-then o (λ d. spelled-on (n * 10 + d) (drop (i + 1) xs)) ≡ spelled-on n (drop i xs)
 spelled-more n xs i h o e =
     ap (λ p. and-then p (λ d. spelled-on (n * 10 + d) (drop (i + 1) xs))) e
     ∙ sym (ap (spelled-on n) (drop-cons xs i 0 h) ∙ rw add-one)

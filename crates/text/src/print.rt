@@ -1,5 +1,5 @@
 ghost use mathlib.Core.Path.{_≡_};
-ghost use Prim.Native.Nat.{ℕ, _+_, _<_, _≤_};
+ghost use Prim.Native.Nat.{_+_, _<_, _≤_};
 ghost use lib.ListN.{length};
 ghost use Rattle.std.specs.Written.{decimal, signed};
 ghost use Rattle.text.specs.Printing.{Printed, put};
@@ -52,8 +52,8 @@ pub fn put_signed(buffer: &mut [u8], at: usize, z: i32) -> usize
     ensures { λ r. ⌜ Printed (now (buffer .entry)) at (signed z) (now (buffer .exit)) r ⌝ }
 {
     if z < 0 {
-        buffer[at] = b'-';
-        return put_number(buffer, at + 1, z.unsigned_abs());
+        let at = put_bytes(buffer, at, b"-");
+        return put_number(buffer, at, z.unsigned_abs());
     }
     put_number(buffer, at, z as u32)
 }

@@ -1,34 +1,30 @@
-use mathlib.Core.Path.{_≡_, refl, sym, ap, _∙_}
 use mathlib.Core.Bool.{true}
-use mathlib.Core.List.{_++_, _∷_, []}
-use Prim.Native.Nat.{_<_, _≤_, _+_}
+use mathlib.Core.List.{_∷_}
+use mathlib.Core.Path.{_≡_, sym, ap, _∙_}
+use Prim.Native.Nat.{ℕ}
 use native.Mathlib.Omega.{arith}
-use lib.IntN.{pos, natAbs}
-use lib.Signed.{ltZ}
+use lib.IntN.{ℤ, pos, natAbs}
 use lib.ListN.{length}
+use lib.Signed.{ltZ}
 use mir.Syntax.{w32}
-use mir.Val.{toZ, ofZ}
-use Rattle.std.specs.Written.{decimal, signed}
+use mir.Val.{toZ, ofZ, SFits}
 use Rattle.std.proofs.shelf.Signed.{toZ-ofZ}
-use Rattle.text.specs.Printing.{put}
-use Rattle.text.proofs.Placed.{put-one, put-put}
+use Rattle.std.specs.Written.{decimal, signed}
+use Rattle.text.proofs.Placed.{then-put, printed-as}
 use Rattle.text.proofs.Spelling.{signed-below}
 use Rattle.text.proofs.print.put_signed.Needs as need
 
+-- a number below 0, which goes through its bits, is a minus and its distance from 0
+parts : (z : ℤ) (m : ℕ) → SFits w32 z → ltZ (toZ w32 (ofZ w32 z)) (pos 0) ≡ true → m ≡ natAbs (toZ w32 (ofZ w32 z))
+    → 45 ∷ decimal m ≡ signed z
+parts z m fits neg mag =
+    let back : toZ w32 (ofZ w32 z) ≡ z = toZ-ofZ w32 z fits in
+    let below : ltZ z (pos 0) ≡ true = rw back at neg in
+    let size : m ≡ natAbs z = rw back at mag in
+    ap (λ n. 45 ∷ decimal n) size ∙ sym (signed-below z below)
+
 pub returns-then-z-lt0 : need.returns-then-z-lt0
 returns-then-z-lt0 c =
-    let z = c .args .z in
-    let bs = c .args .buffer .now in
-    let at = c .args .at in
-    let back : toZ w32 (ofZ w32 z) ≡ z = toZ-ofZ w32 z (c .fits .z) in
-    let neg : ltZ z (pos 0) ≡ true = rw back at (c .if-z-lt0 .taken) in
-    let mag : c .unsigned-abs .result ≡ natAbs z = rw back at (c .unsigned-abs .ensures .value) in
-    let m = c .unsigned-abs .result in
-    let d : signed z ≡ 45 ∷ decimal m = signed-below z neg ∙ ap (λ n. 45 ∷ decimal n) (sym mag) in
-    record {
-      stop = omega (arith, c .put-number .ensures .stop, ap length d);
-      all = c .put-number .ensures .all
-          ∙ ap (λ l. put l (at + 1) (decimal m)) (put-one bs at 45 (omega (arith, c .pre, ap length d)))
-          ∙ put-put bs at (45 ∷ []) (decimal m) (omega (arith, c .pre, ap length d))
-          ∙ ap (put bs at) (sym d);
-    }
+    let size = c .unsigned-abs .ensures .value in
+    let whole = parts (c .args .z) (c .unsigned-abs .result) (c .fits .z) (c .if-z-lt0 .taken) size in
+    printed-as whole (then-put (omega (arith, ap length whole)) (c .put-bytes-at .ensures) (c .put-number .ensures))

@@ -1,4 +1,4 @@
-use mathlib.Core.List.{_++_, _∷_, [], append-assoc}
+use mathlib.Core.List.{_∷_, [], append-assoc}
 use mathlib.Core.Path.{_≡_, refl, sym, ap, subst, _∙_}
 use Prim.Native.Nat.{_<_, _≤_}
 use native.Mathlib.Omega.{arith}
@@ -14,7 +14,8 @@ use Rattle.figure.specs.Orders.{arm-of, verb-of, arm-shown, dig-shown, shift-s
 use Rattle.figure.specs.declared.order.Arm.{Arm}
 use Rattle.figure.specs.declared.order.Arm.the-variants.{Port, Starboard, Both}
 use Rattle.figure.specs.declared.order.DigOrder.the-variants.{Hold, Dig, Shift}
-use Rattle.text.proofs.RoundTrip.{Tabless, fields-then, fields-last, tabless-decimal}
+use Rattle.text.proofs.Parting.{fields-then, fields-last}
+use Rattle.text.proofs.RoundTrip.{tabless-decimal}
 use Rattle.figure.proofs.ReadBack.{read-up-to}
 use Rattle.figure.proofs.order.OrderKind.the-impl.Needs as need
 
@@ -26,10 +27,12 @@ arm-short Both = omega arith
 pub short-law : need.short-law
 short-law Hold = omega arith
 short-law (Dig depth arm) =
-    let digits = length-decimal-le 5 (depth .value) (omega arith) (omega (arith, depth .ok)) (omega (arith, depth .ok)) in
+    let n = depth .value in
+    let digits = length-decimal-le 5 n (omega arith) (omega (arith, depth .ok)) (omega (arith, depth .ok)) in
     simp length-append (omega (arith, arm-short arm))
 short-law (Shift section) =
-    let digits = length-decimal-le 4 (section .value) (omega arith) (omega (arith, section .ok)) (omega (arith, section .ok)) in
+    let n = section .value in
+    let digits = length-decimal-le 4 n (omega arith) (omega (arith, section .ok)) (omega (arith, section .ok)) in
     simp length-append (omega arith)
 
 arm-field : (arm : Arm) → fields (arm-shown arm) ≡ arm-shown arm ∷ []
@@ -44,17 +47,20 @@ read-arm Starboard = refl
 read-arm Both = refl
 
 -- the fields of an order to dig as it is printed
-dig-parts : (depth : Depth) (arm : Arm) → fields (dig-shown depth arm) ≡ codes "dig" ∷ (decimal (depth .value) ∷ (arm-shown arm ∷ []))
+dig-parts : (depth : Depth) (arm : Arm)
+    → fields (dig-shown depth arm) ≡ codes "dig" ∷ (decimal (depth .value) ∷ (arm-shown arm ∷ []))
 dig-parts depth arm =
     let digits = decimal (depth .value) in
+    let plain = tabless-decimal (depth .value) (omega (arith, depth .ok)) in
     ap (λ l. codes "dig" ∷ fields l) (append-assoc digits (9 ∷ []) (arm-shown arm))
-    ∙ ap (λ fs. codes "dig" ∷ fs) (fields-then digits (arm-shown arm) (tabless-decimal (depth .value) (omega (arith, depth .ok))))
+    ∙ ap (λ fs. codes "dig" ∷ fs) (fields-then digits (arm-shown arm) plain)
     ∙ ap (λ fs. codes "dig" ∷ (digits ∷ fs)) (arm-field arm)
 
 -- and of an order to shift
 shift-parts : (section : Section) → fields (shift-shown section) ≡ codes "shift" ∷ (decimal (section .value) ∷ [])
 shift-parts section =
-    ap (λ fs. codes "shift" ∷ fs) (fields-last (decimal (section .value)) (tabless-decimal (section .value) (omega (arith, section .ok))))
+    let plain = tabless-decimal (section .value) (omega (arith, section .ok)) in
+    ap (λ fs. codes "shift" ∷ fs) (fields-last (decimal (section .value)) plain)
 
 pub counts-back-law : need.counts-back-law
 unfolding verb-of

@@ -3,14 +3,15 @@ use mathlib.Core.Path.{_≡_, ap, _∙_}
 use Prim.Native.Nat.{_<_, _≤_}
 use native.Mathlib.Omega.{arith}
 use lib.IntN.{ℤ, pos, negsuc, natAbs}
-use lib.ListN.{length, length-append}
+use lib.ListN.{length-append}
 use lib.Signed.{mag}
 use Rattle.std.proofs.shelf.Decimals.{length-decimal-le, length-signed-le}
 use Rattle.std.specs.Written.{decimal, signed}
 use Rattle.text.specs.Fields.{fields}
 use Rattle.figure.specs.Tides.{tide-reading, tide-shown}
 use Rattle.figure.specs.declared.tide.Tide.{Tide}
-use Rattle.text.proofs.RoundTrip.{fields-then, fields-last, tabless-signed, tabless-decimal}
+use Rattle.text.proofs.Parting.{fields-then, fields-last}
+use Rattle.text.proofs.RoundTrip.{tabless-signed, tabless-decimal}
 use Rattle.figure.proofs.ReadBack.{read-level, read-up-to}
 use Rattle.figure.proofs.tide.TideKind.the-impl.Needs as need
 
