@@ -2,4 +2,5 @@ pub mod Faults
 pub mod Words
 pub mod Headers
 pub mod Openings
+pub mod Calls
 pub mod Answers

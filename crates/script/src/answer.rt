@@ -3,9 +3,11 @@ ghost use Prim.Native.Nat.{_+_, _≤_};
 ghost use lib.ListN.{length};
 ghost use Rattle.text.specs.Printing.{Printed};
 ghost use Rattle.script.specs.Faults.{report};
+ghost use Rattle.script.specs.Answers.{answer-of};
 ghost use Rattle.script.specs.Answers.{tabbed, accepted-shown, finished-shown, declined-shown, answer-shown, line-shown, LinePrinted};
 use crate::fault::ScriptFault;
 use figure::FigureKind;
+use model::Reply;
 use text::put_bytes;
 use text::put_number;
 
@@ -24,6 +26,30 @@ pub enum Answer<F> {
     },
     /// It was declined, and altered nothing.
     Declined(ScriptFault),
+}
+
+/// The answer to a line whose call was answered with this reply.
+pub fn answer_of<F>(reply: Reply<F>) -> Answer<F>
+    ensures { λ r. ⌜ r ≡ answer-of reply ⌝ }
+{
+    match reply {
+        Reply::Started(operation) => Answer::Accepted(operation),
+        Reply::Finished {
+            operation,
+            stamp,
+            figure,
+            sent,
+            exchanges,
+        } => Answer::Finished {
+            operation,
+            stamp,
+            figure,
+            sent,
+            exchanges,
+        },
+        Reply::Done => Answer::Accepted(0),
+        Reply::Declined(refusal) => Answer::Declined(ScriptFault::Plant(refusal)),
+    }
 }
 
 /// Prints the answer to a line under the line's number into a buffer, and gives the number of bytes. A buffer of less than 80
