@@ -77,12 +77,12 @@ lettered-call kind letter fs =
     (Err (TextFault.UnknownWord 0)))))))
 
 -- The call that the fields of a line say: the first is one letter.
-abbrev pub call-by : {F : Type 0} → Ghosts F → List (List ℕ) → Result (Call F) TextFault
-call-by kind [] = Err (TextFault.UnknownWord 0)
-call-by kind ([] ∷ fs) = Err (TextFault.UnknownWord 0)
-call-by kind ((letter ∷ []) ∷ fs) = lettered-call kind letter fs
-call-by kind ((letter ∷ (b ∷ bs)) ∷ fs) = Err (TextFault.UnknownWord 0)
+abbrev pub call-in : {F : Type 0} → Ghosts F → List (List ℕ) → Result (Call F) TextFault
+call-in kind [] = Err (TextFault.UnknownWord 0)
+call-in kind ([] ∷ fs) = Err (TextFault.UnknownWord 0)
+call-in kind ((letter ∷ []) ∷ fs) = lettered-call kind letter fs
+call-in kind ((letter ∷ (b ∷ bs)) ∷ fs) = Err (TextFault.UnknownWord 0)
 
 -- The call that a line says.
 abbrev pub call-of : {F : Type 0} → Ghosts F → List ℕ → Result (Call F) TextFault
-call-of kind line = cond (is-text line) (call-by kind (fields line)) (Err TextFault.NotText)
+call-of kind line = cond (is-text line) (call-in kind (fields line)) (Err TextFault.NotText)

@@ -1,6 +1,7 @@
 ghost use mathlib.Core.Path.{_≡_};
 ghost use Rattle.text.specs.Cursors.{ahead};
-ghost use Rattle.script.specs.Calls.{figure-in, read-kind, read-in, only-number, party-in, lettered-call, call-of};
+ghost use Rattle.text.specs.Fields.{fields};
+ghost use Rattle.script.specs.Calls.{figure-in, read-kind, read-in, only-number, party-in, lettered-call, call-in, call-of};
 use crate::fault::TextFault;
 use crate::fault::TextFromFigure;
 use crate::words::number_in;
@@ -19,6 +20,13 @@ pub fn read_call<F: FigureKind>(line: &[u8]) -> Result<Call<F>, TextFault>
     if !is_text(line) {
         return Err(TextFault::NotText);
     }
+    call_in(line)
+}
+
+// The call that the fields of a line say. A letter alone is a line with one field.
+fn call_in<F: FigureKind>(line: &[u8]) -> Result<Call<F>, TextFault>
+    ensures { λ r. ⌜ r ≡ call-in F·FigureKind (fields (now (line .entry))) ⌝ }
+{
     match line {
         [letter, b'\t', rest @ ..] => lettered_call(char::from(*letter), FieldCursor::over(rest)),
         [letter] => lettered_call(char::from(*letter), FieldCursor::empty()),

@@ -1,15 +1,13 @@
 use borrow.Author.Needs.{needs}
-use mathlib.Core.Path.{_≡_, sym, ap, _∙_}
+use mathlib.Core.Path.{_≡_, ap, _∙_}
 use Prim.Native.Nat.{_<_}
 use lib.ListN.{length, getD}
 use Rattle.std.proofs.shelf.Lists.{take-rest}
-use Rattle.std.proofs.shelf.Tests.{cond-true}
 use Rattle.text.specs.Cursors.{ahead}
 use Rattle.text.specs.Fields.{fields}
-use Rattle.text.specs.Lines.{is-text}
 use Rattle.script.specs.Calls.{lettered-call}
 use Rattle.script.proofs.Lettered.{call-tabbed, call-alone, call-other}
-use Rattle.script.proofs.calls.read_call.Needs as need
+use Rattle.script.proofs.calls.call_in.Needs as need
 
 pub returns-in-len1 : need.returns-in-len1
 returns-in-len1 g c =
@@ -20,7 +18,6 @@ returns-in-len1 g c =
     ∙ ap (λ x. lettered-call k x (ahead (c .empty .result))) (c .from .ensures)
     ∙ ap (lettered-call k (getD l 0 0)) (c .empty .ensures)
     ∙ call-alone k l h
-    ∙ sym (cond-true (is-text l) _ _ (sym (c .if-not-is-text .ensures tt)))
 
 pub returns-in-9 : need.returns-in-9
 returns-in-9 g c =
@@ -32,11 +29,10 @@ returns-in-9 g c =
     ∙ ap (λ x. lettered-call k x (ahead (c .over .result))) (c .from-in-9 .ensures)
     ∙ ap (lettered-call k (getD l 0 0)) (c .over .ensures ∙ ap fields (take-rest l 2))
     ∙ call-tabbed k l h t
-    ∙ sym (cond-true (is-text l) _ _ (sym (c .if-not-is-text .ensures tt)))
 
 pub returns-in-rest : need.returns-in-rest
 returns-in-rest g c =
     let l = c .args .line .now in
     let n : length l ≡ 1 → ⊥ = search needs in
     let t : 1 < length l → getD l 1 0 ≡ 9 → ⊥ = search needs in
-    call-other (g .F·FigureKind) l n t ∙ sym (cond-true (is-text l) _ _ (sym (c .if-not-is-text .ensures tt)))
+    call-other (g .F·FigureKind) l n t
