@@ -4,3 +4,5 @@ pub mod Headers
 pub mod Openings
 pub mod Calls
 pub mod Answers
+pub mod Examples
+pub mod ExampleLines

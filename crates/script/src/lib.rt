@@ -4,6 +4,7 @@
 //! text to script with its cause whole.
 mod answer;
 mod calls;
+mod examples;
 mod fault;
 mod header;
 mod opening;
