@@ -3,8 +3,8 @@ ghost use Prim.Native.Nat.{_+_, _≤_};
 ghost use lib.ListN.{length};
 ghost use Rattle.text.specs.Printing.{Printed};
 ghost use Rattle.script.specs.Faults.{report};
-ghost use Rattle.script.specs.Answers.{answer-of};
-ghost use Rattle.script.specs.Answers.{tabbed, accepted-shown, finished-shown, declined-shown, answer-shown, line-shown, LinePrinted};
+ghost use Rattle.script.specs.Answers.{answer-of, tabbed, accepted-shown, finished-shown, declined-shown};
+ghost use Rattle.script.specs.Answers.{answer-shown, line-shown, LinePrinted};
 use crate::fault::ScriptFault;
 use figure::FigureKind;
 use model::Reply;
@@ -52,14 +52,15 @@ pub fn answer_of<F>(reply: Reply<F>) -> Answer<F>
     }
 }
 
-/// Prints the answer to a line under the line's number into a buffer, and gives the number of bytes. A buffer of less than 80
-/// bytes is refused, and keeps what it held.
+/// Prints the answer to a line under the line's number into a buffer, and gives the number of bytes. A buffer of less
+/// than 80 bytes is refused, and keeps what it held.
 pub fn print_answer<F: FigureKind>(
     number: u32,
     answer: Answer<F>,
     buffer: &mut [u8],
 ) -> Result<usize, ScriptFault>
-    ensures { λ r. ⌜ LinePrinted (now (buffer .entry)) (line-shown (F·FigureKind .shown) number answer) (now (buffer .exit)) r ⌝ }
+    ensures { λ r. ⌜ LinePrinted (now (buffer .entry)) (line-shown (F·FigureKind .shown) number answer)
+        (now (buffer .exit)) r ⌝ }
 {
     if buffer.len() < 80 {
         return Err(ScriptFault::Print);
@@ -74,7 +75,8 @@ pub fn print_answer<F: FigureKind>(
 fn put_answer<F: FigureKind>(buffer: &mut [u8], at: usize, answer: Answer<F>) -> usize
     requires { ⌜ at + 66 ≤ length (now buffer) ⌝ }
     ensures short { λ r. ⌜ r ≤ at + 66 ⌝ }
-    ensures all { λ r. ⌜ Printed (now (buffer .entry)) at (answer-shown (F·FigureKind .shown) answer) (now (buffer .exit)) r ⌝ }
+    ensures all { λ r. ⌜ Printed (now (buffer .entry)) at (answer-shown (F·FigureKind .shown) answer)
+        (now (buffer .exit)) r ⌝ }
 {
     match answer {
         Answer::Accepted(n) => put_accepted(buffer, at, n),

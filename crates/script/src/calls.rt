@@ -1,7 +1,8 @@
 ghost use mathlib.Core.Path.{_≡_};
 ghost use Rattle.text.specs.Cursors.{ahead};
 ghost use Rattle.text.specs.Fields.{fields};
-ghost use Rattle.script.specs.Calls.{figure-in, read-kind, read-in, only-number, party-in, lettered-call, call-in, call-of};
+ghost use Rattle.script.specs.Calls.{figure-in, read-kind, read-in, only-number, party-in};
+ghost use Rattle.script.specs.Calls.{lettered-call, call-in, call-of};
 use crate::fault::TextFault;
 use crate::fault::TextFromFigure;
 use crate::words::number_in;

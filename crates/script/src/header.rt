@@ -1,6 +1,7 @@
 ghost use mathlib.Core.Path.{_≡_};
 ghost use Rattle.text.specs.Cursors.{ahead};
-ghost use Rattle.script.specs.Headers.{rule-word, kind-word, rule-numbers, rule-rest, rule-text, header-rest, header-of};
+ghost use Rattle.script.specs.Headers.{rule-word, kind-word, rule-numbers, rule-rest, rule-text};
+ghost use Rattle.script.specs.Headers.{header-rest, header-of};
 use crate::fault::TextFault;
 use crate::words::number_in;
 use text::FieldCursor;

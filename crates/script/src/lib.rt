@@ -1,7 +1,7 @@
 //! Scripts as text: their lines, the first line, the call lines, and the lines that answer them.
 //!
-//! Every reader is equal to its definition in specs/ for every input, and so is the printer. A fault passes up from figure to
-//! text to script with its cause whole.
+//! Every reader is equal to its definition in specs/ for every input, and so is the printer. A fault passes up from
+//! figure to text to script with its cause whole.
 mod answer;
 mod calls;
 mod examples;
