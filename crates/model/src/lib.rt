@@ -16,6 +16,8 @@ mod worked;
 mod writer;
 
 pub use answers::Refusal;
+pub use answers::RefusalDebug;
+pub use answers::RefusalPartialEq;
 pub use answers::Reply;
 pub use calls::Call;
 pub use journal::Operation;

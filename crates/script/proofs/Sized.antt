@@ -18,6 +18,7 @@ layer-short (ScriptFault.Text TextFault.FieldCount) = omega arith
 layer-short (ScriptFault.Text (TextFault.BadNumber f)) = omega arith
 layer-short (ScriptFault.Text (TextFault.Figure e)) = omega arith
 layer-short (ScriptFault.Rule e) = omega arith
+layer-short (ScriptFault.Plant e) = omega arith
 layer-short ScriptFault.Print = omega arith
 
 -- a number of so many digits behind a tab

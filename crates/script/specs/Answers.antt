@@ -9,10 +9,19 @@ use lib.ListN.{length}
 use Rattle.std.specs.Written.{decimal}
 use Rattle.std.specs.declared.result.Result.{Result}
 use Rattle.std.specs.declared.result.Result.the-variants.{Ok, Err}
+use Rattle.model.specs.declared.answers.Reply.{Reply}
 use Rattle.text.specs.Printing.{put}
 use Rattle.script.specs.declared.answer.Answer.{Answer}
 use Rattle.script.specs.declared.fault.ScriptFault.{ScriptFault}
 use Rattle.script.specs.Faults.{Report, report}
+
+-- What the reply to a call is as the answer to its line.
+abbrev pub answer-of : {F : Type 0} → Reply F → Answer F
+answer-of (Reply.Started n) = Answer.Accepted n
+answer-of (Reply.Finished operation stamp figure sent exchanges) =
+    Answer.Finished operation stamp figure sent exchanges
+answer-of Reply.Done = Answer.Accepted 0
+answer-of (Reply.Declined e) = Answer.Declined (ScriptFault.Plant e)
 
 -- A tab and a number.
 abbrev pub tabbed : ℕ → List ℕ

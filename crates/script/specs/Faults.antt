@@ -3,6 +3,7 @@ use mathlib.Core.List.{List}
 use Prim.Native.Nat.{ℕ, _+_}
 use lib.Chars.{codes}
 use Rattle.quorum.specs.Refusals.{number as rule-number}
+use Rattle.model.specs.Answers.{number as plant-number}
 use Rattle.figure.specs.Faults.{fault-number, fault-field}
 use Rattle.figure.specs.declared.fault.FigureFault.{FigureFault}
 use Rattle.script.specs.declared.fault.TextFault.{TextFault}
@@ -31,4 +32,5 @@ text-report (TextFault.Figure e) = in-figure e
 abbrev pub report : ScriptFault → Report
 report (ScriptFault.Text e) = text-report e
 report (ScriptFault.Rule e) = record { layer = codes "rule"; number = rule-number e; field = 0 }
+report (ScriptFault.Plant e) = record { layer = codes "plant"; number = plant-number e; field = 0 }
 report ScriptFault.Print = record { layer = codes "print"; number = 16; field = 0 }

@@ -30,7 +30,9 @@ rule-word w =
 
 -- The kind of figure that a word names.
 unfoldable pub kind-word : List ℕ → Option Kind
-kind-word w = cond (sameBytes w (codes "tide")) (Some Kind.Tide) (cond (sameBytes w (codes "order")) (Some Kind.Order) None)
+kind-word w =
+    cond (sameBytes w (codes "tide")) (Some Kind.Tide)
+    (cond (sameBytes w (codes "order")) (Some Kind.Order) None)
 
 -- How many numbers follow a rule's word.
 abbrev pub rule-numbers : RuleWord → ℕ
@@ -45,17 +47,20 @@ rule-rest RuleWord.Count a b fs = Ok (RuleText.Count a b)
 rule-rest RuleWord.Grid a b fs = Ok (RuleText.Grid a b)
 rule-rest RuleWord.Lead a b fs = ok-then (number-in (field-at fs 0) 6) (λ c. Ok (RuleText.Lead a b c))
 rule-rest RuleWord.Groups a b fs =
-    ok-then (number-in (field-at fs 0) 6) (λ c. ok-then (number-in (field-at fs 1) 7) (λ d. Ok (RuleText.Groups a b c d)))
+    ok-then (number-in (field-at fs 0) 6) (λ c.
+    ok-then (number-in (field-at fs 1) 7) (λ d. Ok (RuleText.Groups a b c d)))
 
 -- The rule of the fields of its numbers, which begin at field 4 of the line.
 unfoldable pub rule-text : RuleWord → List (List ℕ) → Result RuleText TextFault
 rule-text k fs =
-    ok-then (number-in (field-at fs 0) 4) (λ a. ok-then (number-in (field-at fs 1) 5) (λ b. rule-rest k a b (drop 2 fs)))
+    ok-then (number-in (field-at fs 0) 4) (λ a.
+    ok-then (number-in (field-at fs 1) 5) (λ b. rule-rest k a b (drop 2 fs)))
 
 abbrev pub header-kind : List ℕ → RuleWord → List (List ℕ) → Option Kind → Result Header TextFault
 header-kind readers k fs None = Err (TextFault.UnknownWord 1)
 header-kind readers k fs (Some kind) =
-    ok-then (number-in readers 2) (λ n. ok-then (rule-text k fs) (λ rule. Ok (record { kind = kind; readers = n; rule = rule })))
+    ok-then (number-in readers 2) (λ n.
+    ok-then (rule-text k fs) (λ rule. Ok (record { kind = kind; readers = n; rule = rule })))
 
 -- The kind, the readers and the numbers of the rule, from the left.
 unfoldable pub header-rest : (kind readers : List ℕ) → RuleWord → List (List ℕ) → Result Header TextFault
@@ -64,7 +69,8 @@ header-rest kind readers k fs = header-kind readers k fs (kind-word kind)
 abbrev pub header-ruled : List (List ℕ) → Option RuleWord → Result Header TextFault
 header-ruled fs None = Err (TextFault.UnknownWord 3)
 header-ruled fs (Some k) =
-    cond (eqb (length fs) (4 + rule-numbers k)) (header-rest (field-at fs 1) (field-at fs 2) k (drop 4 fs)) (Err TextFault.FieldCount)
+    cond (eqb (length fs) (4 + rule-numbers k)) (header-rest (field-at fs 1) (field-at fs 2) k (drop 4 fs))
+    (Err TextFault.FieldCount)
 
 -- The words that fix the number of fields, that number, then the rest from the left.
 abbrev pub header-by : List (List ℕ) → Result Header TextFault

@@ -3,9 +3,11 @@ ghost use Prim.Native.Nat.{_+_, _≤_};
 ghost use lib.ListN.{length};
 ghost use Rattle.text.specs.Printing.{Printed};
 ghost use Rattle.script.specs.Faults.{report};
-ghost use Rattle.script.specs.Answers.{tabbed, accepted-shown, finished-shown, declined-shown, answer-shown, line-shown, LinePrinted};
+ghost use Rattle.script.specs.Answers.{answer-of, tabbed, accepted-shown, finished-shown, declined-shown};
+ghost use Rattle.script.specs.Answers.{answer-shown, line-shown, LinePrinted};
 use crate::fault::ScriptFault;
 use figure::FigureKind;
+use model::Reply;
 use text::put_bytes;
 use text::put_number;
 
@@ -26,14 +28,39 @@ pub enum Answer<F> {
     Declined(ScriptFault),
 }
 
-/// Prints the answer to a line under the line's number into a buffer, and gives the number of bytes. A buffer of less than 80
-/// bytes is refused, and keeps what it held.
+/// The answer to a line whose call was answered with this reply.
+pub fn answer_of<F>(reply: Reply<F>) -> Answer<F>
+    ensures { λ r. ⌜ r ≡ answer-of reply ⌝ }
+{
+    match reply {
+        Reply::Started(operation) => Answer::Accepted(operation),
+        Reply::Finished {
+            operation,
+            stamp,
+            figure,
+            sent,
+            exchanges,
+        } => Answer::Finished {
+            operation,
+            stamp,
+            figure,
+            sent,
+            exchanges,
+        },
+        Reply::Done => Answer::Accepted(0),
+        Reply::Declined(refusal) => Answer::Declined(ScriptFault::Plant(refusal)),
+    }
+}
+
+/// Prints the answer to a line under the line's number into a buffer, and gives the number of bytes. A buffer of less
+/// than 80 bytes is refused, and keeps what it held.
 pub fn print_answer<F: FigureKind>(
     number: u32,
     answer: Answer<F>,
     buffer: &mut [u8],
 ) -> Result<usize, ScriptFault>
-    ensures { λ r. ⌜ LinePrinted (now (buffer .entry)) (line-shown (F·FigureKind .shown) number answer) (now (buffer .exit)) r ⌝ }
+    ensures { λ r. ⌜ LinePrinted (now (buffer .entry)) (line-shown (F·FigureKind .shown) number answer)
+        (now (buffer .exit)) r ⌝ }
 {
     if buffer.len() < 80 {
         return Err(ScriptFault::Print);
@@ -48,7 +75,8 @@ pub fn print_answer<F: FigureKind>(
 fn put_answer<F: FigureKind>(buffer: &mut [u8], at: usize, answer: Answer<F>) -> usize
     requires { ⌜ at + 66 ≤ length (now buffer) ⌝ }
     ensures short { λ r. ⌜ r ≤ at + 66 ⌝ }
-    ensures all { λ r. ⌜ Printed (now (buffer .entry)) at (answer-shown (F·FigureKind .shown) answer) (now (buffer .exit)) r ⌝ }
+    ensures all { λ r. ⌜ Printed (now (buffer .entry)) at (answer-shown (F·FigureKind .shown) answer)
+        (now (buffer .exit)) r ⌝ }
 {
     match answer {
         Answer::Accepted(n) => put_accepted(buffer, at, n),

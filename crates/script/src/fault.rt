@@ -1,10 +1,13 @@
 ghost use mathlib.Core.Path.{_≡_};
 ghost use Rattle.script.specs.declared.fault.TextFault.the-variants.{Figure as OfFigure};
-ghost use Rattle.script.specs.declared.fault.ScriptFault.the-variants.{Text as OfText, Rule as OfRule};
+ghost use Rattle.script.specs.declared.fault.ScriptFault.the-variants.{Text as OfText, Rule as OfRule, Plant as OfPlant};
 ghost use Rattle.script.specs.Faults.{text-report, report};
 use figure::FigureFault;
 use figure::FigureFaultDebug;
 use figure::FigureFaultPartialEq;
+use model::Refusal;
+use model::RefusalDebug;
+use model::RefusalPartialEq;
 use quorum::RuleRefusal;
 use quorum::RuleRefusalDebug;
 use quorum::RuleRefusalPartialEq;
@@ -30,6 +33,8 @@ pub enum ScriptFault {
     Text(TextFault),
     /// The rule, or the draft of a register, is refused.
     Rule(RuleRefusal),
+    /// The register declines the call.
+    Plant(Refusal),
     /// The print buffer is too short.
     Print,
 }
@@ -55,6 +60,14 @@ pub impl From<RuleRefusal> for ScriptFault as ScriptFromRule {
 
     fn from(e: RuleRefusal) -> ScriptFault {
         ScriptFault::Rule(e)
+    }
+}
+
+pub impl From<Refusal> for ScriptFault as ScriptFromPlant {
+    ghost converts = { λ e r. r ≡ OfPlant e };
+
+    fn from(e: Refusal) -> ScriptFault {
+        ScriptFault::Plant(e)
     }
 }
 
@@ -95,6 +108,7 @@ impl ScriptFault {
             ScriptFault::Text(TextFault::Figure(_)) => b"figure",
             ScriptFault::Text(_) => b"text",
             ScriptFault::Rule(_) => b"rule",
+            ScriptFault::Plant(_) => b"plant",
             ScriptFault::Print => b"print",
         }
     }
@@ -106,6 +120,7 @@ impl ScriptFault {
         match self {
             ScriptFault::Text(fault) => fault.number(),
             ScriptFault::Rule(refusal) => refusal.number(),
+            ScriptFault::Plant(refusal) => refusal.number(),
             ScriptFault::Print => 16,
         }
     }
@@ -117,6 +132,7 @@ impl ScriptFault {
         match self {
             ScriptFault::Text(fault) => fault.field(),
             ScriptFault::Rule(_) => 0,
+            ScriptFault::Plant(_) => 0,
             ScriptFault::Print => 0,
         }
     }

@@ -1,12 +1,12 @@
 ghost use mathlib.Core.Path.{_≡_};
 ghost use Rattle.text.specs.Cursors.{ahead};
-ghost use Rattle.script.specs.Words.{number-in};
-ghost use Rattle.script.specs.Headers.{rule-word, kind-word, rule-numbers, rule-rest, rule-text, header-rest, header-of};
+ghost use Rattle.script.specs.Headers.{rule-word, kind-word, rule-numbers, rule-rest, rule-text};
+ghost use Rattle.script.specs.Headers.{header-rest, header-of};
 use crate::fault::TextFault;
+use crate::words::number_in;
 use text::FieldCursor;
 use text::is_text;
 use text::is_word;
-use text::number;
 
 /// The kind of figure that a register holds.
 #[derive(Clone, Copy)]
@@ -84,16 +84,6 @@ pub fn read_header(line: &[u8]) -> Result<Header, TextFault>
         return Err(TextFault::FieldCount);
     }
     header_rest(kind, readers, rule, fields)
-}
-
-// The number in a field.
-pub fn number_in(word: &[u8], field: u8) -> Result<u32, TextFault>
-    ensures { λ r. ⌜ r ≡ number-in (now (word .entry)) field ⌝ }
-{
-    match number(word) {
-        Some(n) => Ok(n),
-        None => Err(TextFault::BadNumber { field }),
-    }
 }
 
 // The rule that a word names.
