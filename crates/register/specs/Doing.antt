@@ -1,0 +1,32 @@
+-- What a call on sound tables does to the register's numbers and to every place of the lent tables.
+use mathlib.Core.Path.{_≡_}
+use Prim.Native.Nat.{ℕ}
+use Rattle.quorum.specs.Sets.{Rule}
+use Rattle.model.specs.declared.calls.Call.{Call}
+use Rattle.model.specs.declared.answers.Reply.{Reply}
+use Rattle.model.specs.State.{State, stored}
+use Rattle.model.specs.Steps.{Outcome, tests, first-of, settled, done}
+use Rattle.register.specs.declared.numbers.Numbers.{Numbers}
+use Rattle.register.specs.View.{Tables, view, Kept}
+
+-- The step of a call on tables that are known to be sound.
+unfoldable pub judged : {F : Type 0} → Rule → State F → Call F → Outcome F
+judged rule s c = settled s (first-of (tests rule s c)) (done rule s c)
+
+-- The tables are as long, and as many parties there are, as before.
+pub record SameSizes (n after : Numbers) : Type 0 where
+  pub replicas : after .replicas ≡ n .replicas
+  pub readers : after .readers ≡ n .readers
+  pub message-room : after .«message_room» ≡ n .«message_room»
+  pub journal-room : after .«journal_room» ≡ n .«journal_room»
+
+-- The answer and what is left are those of the outcome. Places of the messages and the journal that are not in use keep
+-- what they held.
+pub record Does {F : Type 0} (start : F) (o : Outcome F) (n : Numbers) (t : Tables F) (r : Reply F) (n′ : Numbers)
+    (t′ : Tables F) : Type 0 where
+  pub answer : r ≡ o .reply
+  pub state : view start n′ t′ ≡ o .next
+  pub messages : t′ .messages ≡ stored (o .next .messages) (t .messages)
+  pub journal : t′ .journal ≡ stored (o .next .journal) (t .journal)
+  pub kept : Kept n′
+  pub sizes : SameSizes n n′
