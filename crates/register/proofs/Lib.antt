@@ -1,2 +1,7 @@
 pub mod Fronts
 pub mod Sending
+pub mod Counting
+pub mod Judging
+pub mod Opening
+pub mod Starts
+pub mod Writes

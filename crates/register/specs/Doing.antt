@@ -1,11 +1,16 @@
 -- What a call on sound tables does to the register's numbers and to every place of the lent tables.
 use mathlib.Core.Path.{_≡_}
-use Prim.Native.Nat.{ℕ}
+use mathlib.Core.List.{[], _∷_}
+use Prim.Native.Nat.{ℕ, _+_}
+use lib.Dec.{leb, ltb}
+use Rattle.std.specs.declared.option.Option.{Option}
+use Rattle.std.specs.declared.option.Option.the-variants.{Some, None}
 use Rattle.quorum.specs.Sets.{Rule}
 use Rattle.model.specs.declared.calls.Call.{Call}
 use Rattle.model.specs.declared.answers.Reply.{Reply}
+use Rattle.model.specs.declared.answers.Refusal.{Refusal}
 use Rattle.model.specs.State.{State, stored}
-use Rattle.model.specs.Steps.{Outcome, tests, first-of, settled, done}
+use Rattle.model.specs.Steps.{Outcome, Tests, declined, busy, tests, first-of, settled, done}
 use Rattle.register.specs.declared.numbers.Numbers.{Numbers}
 use Rattle.register.specs.View.{Tables, view, Kept}
 
@@ -30,3 +35,13 @@ pub record Does {F : Type 0} (start : F) (o : Outcome F) (n : Numbers) (t : Tabl
   pub journal : t′ .journal ≡ stored (o .next .journal) (t .journal)
   pub kept : Kept n′
   pub sizes : SameSizes n n′
+
+-- The refusals of a call by the numbers alone, in their order, with the room for what it would send last.
+
+abbrev pub write-tests : Numbers → Tests
+write-tests n =
+    (n .writer .halted, Refusal.Halted)
+    ∷ (busy (n .writer .operation), Refusal.Busy)
+    ∷ (leb (n .«journal_room») (n .lines), Refusal.JournalFull)
+    ∷ (ltb (n .«message_room») (n .waiting + n .replicas), Refusal.NoRoom)
+    ∷ []

@@ -1,3 +1,4 @@
 pub mod View
-pub mod Doing
 pub mod Posting
+pub mod Starting
+pub mod Doing
