@@ -5,3 +5,4 @@ pub mod Judging
 pub mod Opening
 pub mod Starts
 pub mod Writes
+pub mod ReadStarts

@@ -1,15 +1,17 @@
 -- What a call on sound tables does to the register's numbers and to every place of the lent tables.
 use mathlib.Core.Path.{_≡_}
-use mathlib.Core.List.{[], _∷_}
+use mathlib.Core.List.{List, [], _∷_}
 use Prim.Native.Nat.{ℕ, _+_}
 use lib.Dec.{leb, ltb}
+use lib.ListN.{length, getD}
 use Rattle.std.specs.declared.option.Option.{Option}
 use Rattle.std.specs.declared.option.Option.the-variants.{Some, None}
 use Rattle.quorum.specs.Sets.{Rule}
 use Rattle.model.specs.declared.calls.Call.{Call}
 use Rattle.model.specs.declared.answers.Reply.{Reply}
 use Rattle.model.specs.declared.answers.Refusal.{Refusal}
-use Rattle.model.specs.State.{State, stored}
+use Rattle.model.specs.declared.reader.Reader.{Reader}
+use Rattle.model.specs.State.{State, stored, new-reader}
 use Rattle.model.specs.Steps.{Outcome, Tests, declined, busy, tests, first-of, settled, done}
 use Rattle.register.specs.declared.numbers.Numbers.{Numbers}
 use Rattle.register.specs.View.{Tables, view, Kept}
@@ -42,6 +44,15 @@ abbrev pub write-tests : Numbers → Tests
 write-tests n =
     (n .writer .halted, Refusal.Halted)
     ∷ (busy (n .writer .operation), Refusal.Busy)
+    ∷ (leb (n .«journal_room») (n .lines), Refusal.JournalFull)
+    ∷ (ltb (n .«message_room») (n .waiting + n .replicas), Refusal.NoRoom)
+    ∷ []
+
+abbrev pub read-tests : {F : Type 0} → F → Numbers → List (Reader F) → ℕ → Tests
+read-tests start n ds r =
+    (leb (length ds) r, Refusal.NoSuchParty)
+    ∷ ((getD ds r (new-reader start)) .halted, Refusal.Halted)
+    ∷ (busy ((getD ds r (new-reader start)) .operation), Refusal.Busy)
     ∷ (leb (n .«journal_room») (n .lines), Refusal.JournalFull)
     ∷ (ltb (n .«message_room») (n .waiting + n .replicas), Refusal.NoRoom)
     ∷ []

@@ -1,8 +1,11 @@
 -- An operation starts, by the register's numbers.
-use Prim.Native.Nat.{ℕ, _+_}
+use mathlib.Core.List.{List}
+use Prim.Native.Nat.{ℕ, _+_, _<_, _≤_}
+use lib.ListN.{length}
 use Rattle.model.specs.declared.journal.Operation.{Operation}
 use Rattle.model.specs.declared.journal.OperationKind.{OperationKind}
 use Rattle.model.specs.declared.messages.Message.{Message}
+use Rattle.model.specs.declared.reader.Reader.{Reader}
 use Rattle.model.specs.declared.writer.Writer.{Writer}
 use Rattle.register.specs.declared.numbers.Numbers.{Numbers}
 
@@ -34,3 +37,9 @@ opened-line n kind m = record {
   figure = m .figure;
   sent = n .replicas;
 }
+
+-- What a read that is not refused finds.
+pub record ReadClear {F : Type 0} (n : Numbers) (ds : List (Reader F)) (r : ℕ) : Type 0 where
+  pub there : r < length ds
+  pub line : n .lines < n .«journal_room»
+  pub room : n .waiting + n .replicas ≤ n .«message_room»
