@@ -6,3 +6,4 @@ pub mod Opening
 pub mod Starts
 pub mod Writes
 pub mod ReadStarts
+pub mod Transits

@@ -2,3 +2,4 @@ pub mod View
 pub mod Posting
 pub mod Starting
 pub mod Doing
+pub mod Waiting

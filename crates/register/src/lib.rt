@@ -2,3 +2,4 @@
 mod numbers;
 mod starting;
 mod tools;
+mod transit;
