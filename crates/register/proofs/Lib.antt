@@ -7,3 +7,4 @@ pub mod Starts
 pub mod Writes
 pub mod ReadStarts
 pub mod Transits
+pub mod Halts
