@@ -1,0 +1,10 @@
+pub mod Fronts
+pub mod Sending
+pub mod Counting
+pub mod Judging
+pub mod Opening
+pub mod Starts
+pub mod Writes
+pub mod ReadStarts
+pub mod Transits
+pub mod Halts

@@ -1,0 +1,5 @@
+pub mod View
+pub mod Posting
+pub mod Starting
+pub mod Doing
+pub mod Waiting

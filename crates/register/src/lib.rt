@@ -1,0 +1,6 @@
+//! The register: a draft is commissioned over five lent tables, and calls on it do exactly the model's steps.
+mod halting;
+mod numbers;
+mod starting;
+mod tools;
+mod transit;
