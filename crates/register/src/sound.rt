@@ -1,0 +1,3 @@
+mod lines;
+mod parties;
+mod sets;
