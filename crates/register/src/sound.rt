@@ -1,3 +1,75 @@
+//! Whether lent tables are sound, that is, may be those of a register in service: one pass over each of them.
+ghost use mathlib.Core.Path.{_≡_};
+ghost use mathlib.Core.List.{List};
+ghost use Prim.Native.Nat.{_≤_};
+ghost use lib.ListN.{length};
+ghost use Rattle.quorum.specs.Sets.{Rule};
+ghost use Rattle.model.specs.declared.replica.Replica.{Replica as ReplicaOf};
+ghost use Rattle.model.specs.Sound.{each, each-from as eachFrom, mark-within as markWithin, sound as isSound};
+ghost use Rattle.register.specs.Judged.{of-size as ofSize, judged, reader-sound as readerSound, message-sound as messageSound};
+ghost use Rattle.register.specs.View.{tables, view};
+use crate::numbers::Numbers;
+use model::Message;
+use model::Operation;
+use model::Reader;
+use model::RelayMark;
+
 mod lines;
 mod parties;
+mod records;
 mod sets;
+
+use records::message_sound;
+use records::reader_sound;
+use sets::mark_within;
+
+/// Whether every reader is sound.
+fn readers_sound<F: Copy>(size: u32, readers: &[Reader<F>], lines: &[Operation<F>]) -> bool
+    requires { ⌜ size ≤ 24 ⌝ }
+    ensures {
+        λ r. ⌜ ((start : F) →
+            r ≡ eachFrom 0 (readerSound (ofSize size) (judged start (now (readers .entry)) (now (lines .entry))))
+                (now (readers .entry))) ⌝
+    }
+{
+    for (number, reader) in readers.iter().enumerate() {
+        if !reader_sound(size, lines, number, reader) {
+            return false;
+        }
+    }
+    true
+}
+
+/// Whether the sets of all marks name replicas only.
+fn marks_sound(size: u32, marks: &[RelayMark]) -> bool
+    requires { ⌜ size ≤ 24 ⌝ }
+    ensures { λ r. ⌜ r ≡ each (markWithin (ofSize size)) (now (marks .entry)) ⌝ }
+{
+    for mark in marks {
+        if !mark_within(size, mark) {
+            return false;
+        }
+    }
+    true
+}
+
+/// Whether every waiting message is sound.
+fn messages_sound<F: Copy>(
+    size: u32,
+    readers: &[Reader<F>],
+    lines: &[Operation<F>],
+    waiting: &[Message<F>],
+) -> bool
+    ensures {
+        λ r. ⌜ ((start : F) →
+            r ≡ each (messageSound (ofSize size) (judged start (now (readers .entry)) (now (lines .entry))))
+                (now (waiting .entry))) ⌝
+    }
+{
+    for message in waiting {
+        if !message_sound(size, readers, lines, message) {
+            return false;
+        }
+    }
+    true
+}
