@@ -23,6 +23,31 @@ use records::message_sound;
 use records::reader_sound;
 use sets::mark_within;
 
+/// Whether the tables may be those of a register in service. Of the messages those that wait are judged, and of the
+/// journal the lines in use.
+pub fn tables_sound<F: Copy>(
+    numbers: &Numbers,
+    readers: &[Reader<F>],
+    marks: &[RelayMark],
+    messages: &[Message<F>],
+    journal: &[Operation<F>],
+) -> bool
+    requires replicas { ⌜ now numbers .replicas ≤ 24 ⌝ }
+    requires waiting { ⌜ now numbers .waiting ≤ length (now messages) ⌝ }
+    requires lines { ⌜ now numbers .lines ≤ length (now journal) ⌝ }
+    ensures {
+        λ r. ⌜ ((rule : Rule) → rule .size ≡ now (numbers .entry) .replicas
+            → (start : F) (replicas : List (ReplicaOf F))
+            → r ≡ isSound rule (view start (now (numbers .entry)) (tables replicas (now (readers .entry))
+                (now (marks .entry)) (now (messages .entry)) (now (journal .entry))))) ⌝
+    }
+{
+    let size = numbers.replicas;
+    let waiting = &messages[..numbers.waiting];
+    let lines = &journal[..numbers.lines as usize];
+    readers_sound(size, readers, lines) && marks_sound(size, marks) && messages_sound(size, readers, lines, waiting)
+}
+
 /// Whether every reader is sound.
 fn readers_sound<F: Copy>(size: u32, readers: &[Reader<F>], lines: &[Operation<F>]) -> bool
     requires { ⌜ size ≤ 24 ⌝ }
