@@ -22,9 +22,8 @@ use Rattle.register.proofs.Passing.{each-placed}
 
 and-swapped : (a b c d : Bool) → ((a && b) && (c && d)) ≡ ((a && c) && (b && d))
 and-swapped false b c d = refl
-and-swapped true false false d = refl
-and-swapped true false true d = refl
-and-swapped true true c d = ap (λ x. x && d) (sym (and-true c)) ∙ ap (λ x. x && d) (and-true c)
+and-swapped true false c d = sym (and-false c)
+and-swapped true true c d = refl
 
 each-from-both : {A : Type 0} (f g : ℕ → A → Bool) (n : ℕ) (xs : List A)
     → (each-from n f xs && each-from n g xs) ≡ each-from n (λ k x. f k x && g k x) xs
@@ -53,5 +52,67 @@ by-table true k a b false = and-false ((k && a) && b)
 -- WHAT A MESSAGE is judged by
 
 module _ {F : Type 0} (rule : Rule) (s : State F) where
-  sized : Rule
+  -- all of the rule and of the register that counts
+  abbrev sized : Rule
   sized = of-size (rule .size)
+
+  abbrev parts : State F
+  parts = judged (s .start) (s .readers) (s .journal)
+
+  a-replica-sized : (p : Party) → a-replica rule p ≡ a-replica sized p
+  a-replica-sized Party.Writer = refl
+  a-replica-sized (Party.Reader r) = refl
+  a-replica-sized (Party.Replica c) = refl
+
+  a-reader-parts : (p : Party) → a-reader s p ≡ a-reader parts p
+  a-reader-parts Party.Writer = refl
+  a-reader-parts (Party.Reader r) = refl
+  a-reader-parts (Party.Replica c) = refl
+
+  suits-parts : (kind : MessageKind) (from to : Party) → suits rule s kind from to ≡ suits sized parts kind from to
+  suits-parts MessageKind.Put from to = ap (λ b. a-writer from && b) (a-replica-sized to)
+  suits-parts MessageKind.PutAck from to = ap (λ b. b && a-writer to) (a-replica-sized from)
+  suits-parts MessageKind.Query from to = ap₂ (λ a b. a && b) (a-reader-parts from) (a-replica-sized to)
+  suits-parts MessageKind.Have from to = ap₂ (λ a b. a && b) (a-replica-sized from) (a-reader-parts to)
+  suits-parts MessageKind.Back from to = ap₂ (λ a b. a && b) (a-reader-parts from) (a-replica-sized to)
+  suits-parts MessageKind.BackAck from to = ap₂ (λ a b. a && b) (a-replica-sized from) (a-reader-parts to)
+  suits-parts MessageKind.Fan from to = ap₂ (λ a b. a && b) (a-reader-parts from) (a-replica-sized to)
+  suits-parts MessageKind.Relay from to = ap₂ (λ a b. a && b) (a-replica-sized from) (a-replica-sized to)
+  suits-parts MessageKind.Reply from to = ap₂ (λ a b. a && b) (a-replica-sized from) (a-reader-parts to)
+
+  owned-parts : (kind : OperationKind) (owner : Party) → owned s kind owner ≡ owned parts kind owner
+  owned-parts OperationKind.Write owner = refl
+  owned-parts (OperationKind.Read k) owner = a-reader-parts owner
+
+  message-parts : (m : Message F) → message-sound rule s m ≡ message-sound sized parts m
+  message-parts m =
+      let o = line s (m .operation) in
+      ap₂ (λ a b. (a && in-journal s (m .operation)) && (serves (m .kind) (o .kind) && b))
+      (suits-parts (m .kind) (m .sender) (m .receiver)) (owned-parts (o .kind) (o .owner))
+
+-- ALL OF IT, under a rule of this size: one test of each reader and each mark, and one of each message
+
+abbrev pub all-parties : {F : Type 0} → ℕ → State F → Bool
+all-parties size s =
+    each-from 0 (reader-sound (of-size size) (judged (s .start) (s .readers) (s .journal))) (s .readers)
+    && each (mark-within (of-size size)) (s .marks)
+
+abbrev pub all-messages : {F : Type 0} → ℕ → State F → Bool
+all-messages size s = each (message-sound (of-size size) (judged (s .start) (s .readers) (s .journal))) (s .messages)
+
+sound-by-table : {F : Type 0} (rule : Rule) (s : State F)
+    → sound rule s ≡ (all-parties (rule .size) s && all-messages (rule .size) s)
+unfolding sound sets-within messages-addressed messages-booked readers-placed
+sound-by-table rule s =
+    by-table (each (reader-within rule) (s .readers)) (each (mark-within rule) (s .marks))
+    (each (addressed rule s) (s .messages)) (each (λ m. booked s (m .kind) (line s (m .operation))) (s .messages))
+    (each-from 0 (placed s) (s .readers))
+    ∙ ap₂ (λ a b. (a && each (mark-within rule) (s .marks)) && b)
+    (each-and-from (reader-within rule) (placed s) (s .readers))
+    (each-both (addressed rule s) (λ m. booked s (m .kind) (line s (m .operation))) (s .messages)
+    ∙ ap (λ test. each test (s .messages)) (fun-ext (message-parts rule s)))
+
+pub sound-judged : {F : Type 0} (rule : Rule) (size : ℕ) → rule .size ≡ size → (s : State F) (parties messages : Bool)
+    → parties ≡ all-parties size s → messages ≡ all-messages size s → (parties && messages) ≡ sound rule s
+sound-judged rule size e s parties messages p m =
+    ap₂ (λ a b. a && b) p m ∙ ap (λ n. all-parties n s && all-messages n s) (sym e) ∙ sym (sound-by-table rule s)

@@ -1,5 +1,6 @@
 //! Whether lent tables are sound, that is, may be those of a register in service: one pass over each of them.
 ghost use mathlib.Core.Path.{_≡_};
+ghost use mathlib.Core.Bool.{_&&_};
 ghost use mathlib.Core.List.{List};
 ghost use Prim.Native.Nat.{_≤_};
 ghost use lib.ListN.{length};
@@ -45,7 +46,19 @@ pub fn tables_sound<F: Copy>(
     let size = numbers.replicas;
     let waiting = &messages[..numbers.waiting];
     let lines = &journal[..numbers.lines as usize];
-    readers_sound(size, readers, lines) && marks_sound(size, marks) && messages_sound(size, readers, lines, waiting)
+    parties_sound(size, readers, marks, lines) && messages_sound(size, readers, lines, waiting)
+}
+
+/// Whether every reader and every mark is sound.
+fn parties_sound<F: Copy>(size: u32, readers: &[Reader<F>], marks: &[RelayMark], lines: &[Operation<F>]) -> bool
+    requires { ⌜ size ≤ 24 ⌝ }
+    ensures {
+        λ r. ⌜ ((start : F) →
+            r ≡ (eachFrom 0 (readerSound (ofSize size) (judged start (now (readers .entry)) (now (lines .entry))))
+                (now (readers .entry)) && each (markWithin (ofSize size)) (now (marks .entry)))) ⌝
+    }
+{
+    readers_sound(size, readers, lines) && marks_sound(size, marks)
 }
 
 /// Whether every reader is sound.

@@ -1,4 +1,20 @@
+use mathlib.Core.Path.{refl, _∙_}
+use mathlib.Core.Bool.{true, false}
+use Rattle.register.specs.View.{tables, view}
+use Rattle.register.proofs.WholeTables.{sound-judged}
 use Rattle.register.proofs.sound.tables_sound.Needs as need
 
-pub returns-else-readers-sound : need.returns-else-readers-sound
-returns-else-readers-sound g c = λ rule e start replicas. let h = c .if-readers-sound .ensures tt start in ?
+pub returns-then-parties-sound : need.returns-then-parties-sound
+returns-then-parties-sound g c = λ rule e start replicas.
+    sound-judged rule (c .args .numbers .now .replicas) e
+    (view start (c .args .numbers .now)
+    (tables replicas (c .args .readers .now) (c .args .marks .now) (c .args .messages .now) (c .args .journal .now)))
+    true (c .messages-sound .result) (c .if-parties-sound .ensures tt start) (c .messages-sound .ensures start)
+
+pub returns-else-parties-sound : need.returns-else-parties-sound
+returns-else-parties-sound g c = λ rule e start replicas.
+    c .if-parties-sound .left
+    ∙ sound-judged rule (c .args .numbers .now .replicas) e
+    (view start (c .args .numbers .now)
+    (tables replicas (c .args .readers .now) (c .args .marks .now) (c .args .messages .now) (c .args .journal .now)))
+    false _ (c .if-parties-sound .ensures tt start) refl
