@@ -1,16 +1,17 @@
 -- One record of the tables: what its test comes to, by what its parts answered.
-use mathlib.Core.Path.{_≡_, refl, sym, ap, ap₂, _∙_}
+use mathlib.Core.Path.{_≡_, sym, ap, ap₂, _∙_}
 use mathlib.Core.Bool.{Bool, true, false, _&&_, _||_, not, and-assoc}
 use mathlib.Core.Logic.{_⊎_, inl, inr}
 use Prim.Native.Nat.{ℕ}
 use lib.Dec.{eqb}
 use Rattle.quorum.specs.Sets.{Rule}
-use Rattle.std.proofs.shelf.Tests.{and-left, true≢false}
+use Rattle.std.proofs.shelf.Tests.{and-left}
 use Rattle.model.specs.declared.reader.Phase.{Phase}
+use Rattle.model.specs.declared.reader.Reader.{Reader}
 use Rattle.model.specs.declared.messages.Message.{Message}
 use Rattle.model.specs.declared.journal.Operation.{Operation}
 use Rattle.model.specs.State.{State, line}
-use Rattle.model.specs.Sound.{suits, in-journal, booked, idle}
+use Rattle.model.specs.Sound.{suits, in-journal, booked, idle, own-read, placed}
 use Rattle.register.specs.Judged.{message-sound}
 
 -- The line of an operation passes a test
@@ -33,13 +34,17 @@ message-judged rule s m parties line-passes p q =
     ∙ sym (and-assoc (suits rule s (m .kind) (m .sender) (m .receiver)) (in-journal s (m .operation))
     (booked s (m .kind) (line s (m .operation))))
 
--- A phase in which an operation is under way
+-- A reader with an operation under way
 
 pub under-way : (p : Phase) → (p ≡ Phase.First) ⊎ ((p ≡ Phase.Second) ⊎ (p ≡ Phase.Relay)) → idle p ≡ false
 under-way p (inl e) = ap idle e
 under-way p (inr (inl e)) = ap idle e
 under-way p (inr (inr e)) = ap idle e
 
-pub when-busy : (i j x y : Bool) → i ≡ false → ((i && j) || (not i && x && y)) ≡ (x && y)
-when-busy true j x y e = absurd (true≢false e)
-when-busy false j x y e = refl
+pub busy-judged : {F : Type 0} (s : State F) (r : ℕ) (d : Reader F) (line-passes : Bool) → idle (d .phase) ≡ false
+    → line-passes ≡ (in-journal s (d .operation) && own-read r (line s (d .operation)))
+    → line-passes ≡ placed s r d
+busy-judged s r d line-passes busy e =
+    e
+    ∙ ap (λ i. (i && eqb (d .operation) 0)
+    || (not i && in-journal s (d .operation) && own-read r (line s (d .operation)))) (sym busy)

@@ -36,12 +36,10 @@ pub fn tables_sound<F: Copy>(
     requires replicas { ⌜ now numbers .replicas ≤ 24 ⌝ }
     requires waiting { ⌜ now numbers .waiting ≤ length (now messages) ⌝ }
     requires lines { ⌜ now numbers .lines ≤ length (now journal) ⌝ }
-    ensures {
-        λ r. ⌜ ((rule : Rule) → rule .size ≡ now (numbers .entry) .replicas
-            → (start : F) (replicas : List (ReplicaOf F))
-            → r ≡ isSound rule (view start (now (numbers .entry)) (tables replicas (now (readers .entry))
-                (now (marks .entry)) (now (messages .entry)) (now (journal .entry))))) ⌝
-    }
+    ensures { λ r. ⌜ ((rule : Rule) → rule .size ≡ now (numbers .entry) .replicas
+        → (start : F) (replicas : List (ReplicaOf F))
+        → r ≡ isSound rule (view start (now (numbers .entry)) (tables replicas (now (readers .entry))
+        (now (marks .entry)) (now (messages .entry)) (now (journal .entry))))) ⌝ }
 {
     let size = numbers.replicas;
     let waiting = &messages[..numbers.waiting];
@@ -50,13 +48,16 @@ pub fn tables_sound<F: Copy>(
 }
 
 /// Whether every reader and every mark is sound.
-fn parties_sound<F: Copy>(size: u32, readers: &[Reader<F>], marks: &[RelayMark], lines: &[Operation<F>]) -> bool
+fn parties_sound<F: Copy>(
+    size: u32,
+    readers: &[Reader<F>],
+    marks: &[RelayMark],
+    lines: &[Operation<F>],
+) -> bool
     requires { ⌜ size ≤ 24 ⌝ }
-    ensures {
-        λ r. ⌜ ((start : F) →
-            r ≡ (eachFrom 0 (readerSound (ofSize size) (judged start (now (readers .entry)) (now (lines .entry))))
-                (now (readers .entry)) && each (markWithin (ofSize size)) (now (marks .entry)))) ⌝
-    }
+    ensures { λ r. ⌜ ((start : F) →
+        r ≡ (eachFrom 0 (readerSound (ofSize size) (judged start (now (readers .entry)) (now (lines .entry))))
+        (now (readers .entry)) && each (markWithin (ofSize size)) (now (marks .entry)))) ⌝ }
 {
     readers_sound(size, readers, lines) && marks_sound(size, marks)
 }
@@ -64,11 +65,9 @@ fn parties_sound<F: Copy>(size: u32, readers: &[Reader<F>], marks: &[RelayMark],
 /// Whether every reader is sound.
 fn readers_sound<F: Copy>(size: u32, readers: &[Reader<F>], lines: &[Operation<F>]) -> bool
     requires { ⌜ size ≤ 24 ⌝ }
-    ensures {
-        λ r. ⌜ ((start : F) →
-            r ≡ eachFrom 0 (readerSound (ofSize size) (judged start (now (readers .entry)) (now (lines .entry))))
-                (now (readers .entry))) ⌝
-    }
+    ensures { λ r. ⌜ ((start : F) →
+        r ≡ eachFrom 0 (readerSound (ofSize size) (judged start (now (readers .entry)) (now (lines .entry))))
+        (now (readers .entry))) ⌝ }
 {
     for (number, reader) in readers.iter().enumerate() {
         if !reader_sound(size, lines, number, reader) {
@@ -98,11 +97,9 @@ fn messages_sound<F: Copy>(
     lines: &[Operation<F>],
     waiting: &[Message<F>],
 ) -> bool
-    ensures {
-        λ r. ⌜ ((start : F) →
-            r ≡ each (messageSound (ofSize size) (judged start (now (readers .entry)) (now (lines .entry))))
-                (now (waiting .entry))) ⌝
-    }
+    ensures { λ r. ⌜ ((start : F) →
+        r ≡ each (messageSound (ofSize size) (judged start (now (readers .entry)) (now (lines .entry))))
+        (now (waiting .entry))) ⌝ }
 {
     for message in waiting {
         if !message_sound(size, readers, lines, message) {

@@ -9,23 +9,21 @@ ghost use Rattle.model.specs.State.{line as lineOf};
 ghost use Rattle.model.specs.Sound.{in-journal as inJournal, serves as isServed, owned as isOwned, booked as isBooked};
 ghost use Rattle.model.specs.Sound.{is-write as isWrite, is-relay-read as isRelayRead, is-round-read as isRoundRead};
 ghost use Rattle.register.specs.Judged.{judged};
+use super::parties::is_reader;
+use super::parties::is_writer;
 use model::MessageKind;
 use model::Operation;
 use model::OperationKind;
 use model::Party;
 use model::ReadKind;
 use model::Reader;
-use super::parties::is_reader;
-use super::parties::is_writer;
 
 /// The line of an operation, if the journal has it. Operations are numbered from 1.
 pub fn line_of<F: Copy>(lines: &[Operation<F>], operation: u16) -> Option<&Operation<F>>
-    ensures {
-        λ r. ⌜ ((start : F) (readers : List (ReaderOf F)) →
-            BySome r (inJournal (judged start readers (now (lines .entry))) operation ≡ false)
-                (λ o. (inJournal (judged start readers (now (lines .entry))) operation ≡ true)
-                    × (now o ≡ lineOf (judged start readers (now (lines .entry))) operation))) ⌝
-    }
+    ensures { λ r. ⌜ ((start : F) (readers : List (ReaderOf F)) →
+        BySome r (inJournal (judged start readers (now (lines .entry))) operation ≡ false)
+        (λ o. (inJournal (judged start readers (now (lines .entry))) operation ≡ true)
+        × (now o ≡ lineOf (judged start readers (now (lines .entry))) operation))) ⌝ }
 {
     lines.get((operation as usize).checked_sub(1)?)
 }
@@ -78,10 +76,8 @@ pub fn serves(kind: MessageKind, operation: OperationKind) -> bool
 
 /// Whether the owner is one who can have an operation of this kind: the writer a write, a reader that exists a read.
 pub fn owned<F: Copy>(readers: &[Reader<F>], kind: OperationKind, owner: Party) -> bool
-    ensures {
-        λ r. ⌜ ((start : F) (lines : List (Line F)) →
-            r ≡ isOwned (judged start (now (readers .entry)) lines) kind owner) ⌝
-    }
+    ensures { λ r. ⌜ ((start : F) (lines : List (Line F)) →
+        r ≡ isOwned (judged start (now (readers .entry)) lines) kind owner) ⌝ }
 {
     match kind {
         OperationKind::Write => is_writer(owner),
@@ -91,10 +87,8 @@ pub fn owned<F: Copy>(readers: &[Reader<F>], kind: OperationKind, owner: Party) 
 
 /// Whether the line can have a waiting message of this kind.
 pub fn booked<F: Copy>(readers: &[Reader<F>], kind: MessageKind, line: &Operation<F>) -> bool
-    ensures {
-        λ r. ⌜ ((start : F) (lines : List (Line F)) →
-            r ≡ isBooked (judged start (now (readers .entry)) lines) kind (now (line .entry))) ⌝
-    }
+    ensures { λ r. ⌜ ((start : F) (lines : List (Line F)) →
+        r ≡ isBooked (judged start (now (readers .entry)) lines) kind (now (line .entry))) ⌝ }
 {
     serves(kind, line.kind) && owned(readers, line.kind, line.owner)
 }

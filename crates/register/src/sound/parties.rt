@@ -21,9 +21,7 @@ pub fn is_writer(party: Party) -> bool
 
 /// Whether the party is a reader that exists.
 pub fn is_reader<F: Copy>(readers: &[Reader<F>], party: Party) -> bool
-    ensures {
-        λ r. ⌜ ((start : F) (lines : List (Line F)) → r ≡ aReader (judged start (now (readers .entry)) lines) party) ⌝
-    }
+    ensures { λ r. ⌜ ((start : F) (lines : List (Line F)) → r ≡ aReader (judged start (now (readers .entry)) lines) party) ⌝ }
 {
     match party {
         Party::Writer => false,
@@ -44,11 +42,15 @@ pub fn is_replica(size: u32, party: Party) -> bool
 }
 
 /// Whether a message of this kind goes from the one to the other.
-pub fn suits<F: Copy>(size: u32, readers: &[Reader<F>], kind: MessageKind, from: Party, to: Party) -> bool
-    ensures {
-        λ r. ⌜ ((start : F) (lines : List (Line F)) →
-            r ≡ areSuited (ofSize size) (judged start (now (readers .entry)) lines) kind from to) ⌝
-    }
+pub fn suits<F: Copy>(
+    size: u32,
+    readers: &[Reader<F>],
+    kind: MessageKind,
+    from: Party,
+    to: Party,
+) -> bool
+    ensures { λ r. ⌜ ((start : F) (lines : List (Line F)) →
+        r ≡ areSuited (ofSize size) (judged start (now (readers .entry)) lines) kind from to) ⌝ }
 {
     match kind {
         MessageKind::Put => is_writer(from) && is_replica(size, to),

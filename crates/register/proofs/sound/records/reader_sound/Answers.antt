@@ -1,6 +1,5 @@
-use mathlib.Core.Path.{ap₂, _∙_}
+use mathlib.Core.Path.{ap₂}
 use mathlib.Core.Bool.{_&&_}
-use borrow.Author.Needs.{needs}
 use Rattle.register.proofs.sound.records.reader_sound.Needs as need
 
 pub returns-then-reader-within : need.returns-then-reader-within
