@@ -92,16 +92,19 @@ module _ {F : Type 0} (rule : Rule) (s : State F) where
 
 -- ALL OF IT, under a rule of this size: one test of each reader and each mark, and one of each message
 
-abbrev pub all-parties : {F : Type 0} → ℕ → State F → Bool
-all-parties size s =
-    each-from 0 (reader-sound (of-size size) (judged (s .start) (s .readers) (s .journal))) (s .readers)
-    && each (mark-within (of-size size)) (s .marks)
+module _ {F : Type 0} (size : ℕ) (start : F) (readers : List (Reader F)) where
+  abbrev pub all-parties : List RelayMark → List (Operation F) → Bool
+  all-parties marks lines =
+      each-from 0 (reader-sound (of-size size) (judged start readers lines)) readers && each (mark-within (of-size size)) marks
 
-abbrev pub all-messages : {F : Type 0} → ℕ → State F → Bool
-all-messages size s = each (message-sound (of-size size) (judged (s .start) (s .readers) (s .journal))) (s .messages)
+  abbrev pub all-messages : List (Operation F) → List (Message F) → Bool
+  all-messages lines messages = each (message-sound (of-size size) (judged start readers lines)) messages
+
+  abbrev all-tables : List RelayMark → List (Operation F) → List (Message F) → Bool
+  all-tables marks lines messages = all-parties marks lines && all-messages lines messages
 
 sound-by-table : {F : Type 0} (rule : Rule) (s : State F)
-    → sound rule s ≡ (all-parties (rule .size) s && all-messages (rule .size) s)
+    → sound rule s ≡ all-tables (rule .size) (s .start) (s .readers) (s .marks) (s .journal) (s .messages)
 unfolding sound sets-within messages-addressed messages-booked readers-placed
 sound-by-table rule s =
     by-table (each (reader-within rule) (s .readers)) (each (mark-within rule) (s .marks))
@@ -112,7 +115,15 @@ sound-by-table rule s =
     (each-both (addressed rule s) (λ m. booked s (m .kind) (line s (m .operation))) (s .messages)
     ∙ ap (λ test. each test (s .messages)) (fun-ext (message-parts rule s)))
 
-pub sound-judged : {F : Type 0} (rule : Rule) (size : ℕ) → rule .size ≡ size → (s : State F) (parties messages : Bool)
-    → parties ≡ all-parties size s → messages ≡ all-messages size s → (parties && messages) ≡ sound rule s
-sound-judged rule size e s parties messages p m =
-    ap₂ (λ a b. a && b) p m ∙ ap (λ n. all-parties n s && all-messages n s) (sym e) ∙ sym (sound-by-table rule s)
+-- What the two tests of the parts in use answered, joined.
+pub sound-judged : {F : Type 0} (rule : Rule) (size : ℕ) (s : State F) (lines : List (Operation F))
+    (waiting : List (Message F)) (parties messages : Bool)
+    → rule .size ≡ size → lines ≡ s .journal → waiting ≡ s .messages
+    → parties ≡ all-parties size (s .start) (s .readers) (s .marks) lines
+    → messages ≡ all-messages size (s .start) (s .readers) lines waiting
+    → (parties && messages) ≡ sound rule s
+sound-judged rule size s lines waiting parties messages e l w p m =
+    ap₂ (λ a b. a && b) p m
+    ∙ ap₂ (all-tables size (s .start) (s .readers) (s .marks)) l w
+    ∙ ap (λ n. all-tables n (s .start) (s .readers) (s .marks) (s .journal) (s .messages)) (sym e)
+    ∙ sym (sound-by-table rule s)

@@ -3,7 +3,7 @@ ghost use mathlib.Core.Path.{_≡_};
 ghost use mathlib.Core.Bool.{_&&_};
 ghost use mathlib.Core.List.{List};
 ghost use Prim.Native.Nat.{_≤_};
-ghost use lib.ListN.{length};
+ghost use lib.ListN.{length, take};
 ghost use Rattle.quorum.specs.Sets.{Rule};
 ghost use Rattle.model.specs.declared.replica.Replica.{Replica as ReplicaOf};
 ghost use Rattle.model.specs.Sound.{each, each-from as eachFrom, mark-within as markWithin, sound as isSound};
@@ -42,9 +42,17 @@ pub fn tables_sound<F: Copy>(
         (now (marks .entry)) (now (messages .entry)) (now (journal .entry))))) ⌝ }
 {
     let size = numbers.replicas;
-    let waiting = &messages[..numbers.waiting];
-    let lines = &journal[..numbers.lines as usize];
+    let waiting = in_use(messages, numbers.waiting);
+    let lines = in_use(journal, numbers.lines as usize);
     parties_sound(size, readers, marks, lines) && messages_sound(size, readers, lines, waiting)
+}
+
+/// The part of a table that is in use: so many records, which stand first.
+fn in_use<T>(table: &[T], used: usize) -> &[T]
+    requires { ⌜ used ≤ length (now table) ⌝ }
+    ensures { λ r. ⌜ now r ≡ take used (now (table .entry)) ⌝ }
+{
+    &table[..used]
 }
 
 /// Whether every reader and every mark is sound.
