@@ -8,3 +8,6 @@ pub mod Writes
 pub mod ReadStarts
 pub mod Transits
 pub mod Halts
+pub mod SoundRecords
+pub mod Passing
+pub mod WholeTables

@@ -3,3 +3,4 @@ pub mod Posting
 pub mod Starting
 pub mod Doing
 pub mod Waiting
+pub mod Judged
