@@ -8,7 +8,7 @@ use lib.ListN.{length, getD, drop}
 use Rattle.std.proofs.shelf.Lists.{at-drop-more, at-drop-all}
 use Rattle.model.specs.Sound.{each, each-from}
 
--- The same, where the test does not look at the place.
+-- A test that does not look at the place is one that may.
 pub each-placed : {A : Type 0} (test : A → Bool) (n : ℕ) (xs : List A) → each test xs ≡ each-from n (λ k. test) xs
 unfolding each each-from
 each-placed test n [] = refl

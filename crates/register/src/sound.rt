@@ -9,6 +9,9 @@ ghost use Rattle.model.specs.declared.replica.Replica.{Replica as ReplicaOf};
 ghost use Rattle.model.specs.Sound.{each, each-from as eachFrom, mark-within as markWithin, sound as isSound};
 ghost use Rattle.register.specs.Judged.{of-size as ofSize, judged, reader-sound as readerSound, message-sound as messageSound};
 ghost use Rattle.register.specs.View.{tables, view};
+use self::records::message_sound;
+use self::records::reader_sound;
+use self::sets::mark_within;
 use crate::numbers::Numbers;
 use model::Message;
 use model::Operation;
@@ -19,10 +22,6 @@ mod lines;
 mod parties;
 mod records;
 mod sets;
-
-use records::message_sound;
-use records::reader_sound;
-use sets::mark_within;
 
 /// Whether the tables may be those of a register in service. Of the messages those that wait are judged, and of the
 /// journal the lines in use.

@@ -1,4 +1,4 @@
-//! The line of a waiting message, and that of a reader's operation.
+//! The lines of the journal: which line an operation has, and which messages a line can have.
 ghost use mathlib.Core.Path.{_≡_};
 ghost use mathlib.Core.Bool.{true, false};
 ghost use mathlib.Core.List.{List};
@@ -85,7 +85,7 @@ pub fn owned<F: Copy>(readers: &[Reader<F>], kind: OperationKind, owner: Party) 
     }
 }
 
-/// Whether the line can have a waiting message of this kind.
+/// Whether a message of this kind serves the line, and the line's owner is one who can have it.
 pub fn booked<F: Copy>(readers: &[Reader<F>], kind: MessageKind, line: &Operation<F>) -> bool
     ensures { λ r. ⌜ ((start : F) (lines : List (Line F)) →
         r ≡ isBooked (judged start (now (readers .entry)) lines) kind (now (line .entry))) ⌝ }

@@ -1,4 +1,4 @@
-//! A message's parties exist and suit its kind.
+//! The parties of a message: who exists, and who sends what to whom.
 ghost use mathlib.Core.Path.{_≡_};
 ghost use mathlib.Core.List.{List};
 ghost use Rattle.model.specs.declared.journal.Operation.{Operation as Line};
@@ -41,7 +41,7 @@ pub fn is_replica(size: u32, party: Party) -> bool
     }
 }
 
-/// Whether a message of this kind goes from the one to the other.
+/// Whether both parties exist, and a message of this kind goes from the one to the other.
 pub fn suits<F: Copy>(
     size: u32,
     readers: &[Reader<F>],

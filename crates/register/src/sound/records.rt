@@ -1,4 +1,4 @@
-//! One reader, and one waiting message, of sound tables.
+//! One reader, and one waiting message: the tests that a pass over their tables makes.
 ghost use mathlib.Core.Path.{_≡_};
 ghost use mathlib.Core.Bool.{_&&_};
 ghost use mathlib.Core.List.{List};
@@ -52,7 +52,7 @@ fn placed<F: Copy>(lines: &[Operation<F>], number: usize, reader: &Reader<F>) ->
     }
 }
 
-/// Whether the reader of this number has sets of replicas only, and is placed.
+/// Whether the reader of this number has sets of replicas only, and is idle or has a read of its own under way.
 pub fn reader_sound<F: Copy>(
     size: u32,
     lines: &[Operation<F>],
