@@ -23,7 +23,7 @@ use Rattle.model.specs.declared.messages.Message.{Message}
 use Rattle.model.specs.Stamps.{rank}
 use Rattle.model.specs.State.{State, Held, index, unused, new-reader, no-line, reader, line, mark, mark-place, held, halted, with-reader, with-held, with-mark}
 use Rattle.model.specs.Records.{took, best, heard, confirmed, lowered, placing, reader-freed, marked, mark-replied, acknowledged}
-use Rattle.model.specs.Sound.{a-reader, a-replica, suits, owned, booked, idle, is-reader, placed, in-journal, is-read, is-round-read, is-relay-read}
+use Rattle.model.specs.Sound.{a-reader, a-replica, suits, owned, recorded, idle, is-reader, placed, in-journal, is-read, is-round-read, is-relay-read}
 use Rattle.model.specs.Deliveries.{Effect, quiet, sending, to-all, carried, answer, counts, in-first, in-second, in-relay, read-finishing, after-have, after-last, is-quick, on-offer, on-put-ack, on-query, on-have, on-back-ack, on-reply, on-fan, on-relay, on, received}
 use Rattle.model.specs.Claims.{of-operation}
 use Rattle.model.proofs.Totals.{set-below, weight, only-for, only-same, only-other, load-of, load, of-operation-to-all, load-to-all, Of, all-to-all, Lines-kept, lines-same, lines-ended}
@@ -476,7 +476,7 @@ module _ {F : Type 0} where
     owner-in (OperationKind.Read k) p e o = reader-in p o
 
     on-handled : (kind : MessageKind) → m .kind ≡ kind
-        → suits rule s kind (m .sender) (m .receiver) ≡ true → booked s kind (line s (m .operation)) ≡ true
+        → suits rule s kind (m .sender) (m .receiver) ≡ true → recorded s kind (line s (m .operation)) ≡ true
         → ((r : ℕ) → r < length (s .readers) → placed s r (reader s r) ≡ true)
         → length (s .marks) ≡ rule .size * length (s .readers)
         → Handled rule s m (on rule kind s m)
@@ -505,7 +505,7 @@ module _ {F : Type 0} where
     on-handled MessageKind.Reply e to b p shape = reply-handled
 
     pub received-handled : suits rule s (m .kind) (m .sender) (m .receiver) ≡ true
-        → booked s (m .kind) (line s (m .operation)) ≡ true
+        → recorded s (m .kind) (line s (m .operation)) ≡ true
         → ((r : ℕ) → r < length (s .readers) → placed s r (reader s r) ≡ true)
         → length (s .marks) ≡ rule .size * length (s .readers)
         → Handled rule s m (received rule s m)

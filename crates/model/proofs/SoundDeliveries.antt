@@ -25,7 +25,7 @@ use Rattle.model.specs.State.{halted, with-reader, with-held}
 use Rattle.model.specs.Records.{took, best, replied-by, heard, confirmed, lowered, placing, reader-freed, marked}
 use Rattle.model.specs.Records.{mark-replied}
 use Rattle.model.specs.Sound.{within, a-writer, a-reader, a-replica, suits, in-journal, is-write, is-round-read}
-use Rattle.model.specs.Sound.{is-relay-read, serves, owned, booked, idle, own-read}
+use Rattle.model.specs.Sound.{is-relay-read, serves, owned, recorded, idle, own-read}
 use Rattle.model.specs.Deliveries.{Effect, quiet, sending, written, to-all, carried, answer, counts, in-first}
 use Rattle.model.specs.Deliveries.{in-second, in-relay, is-quick, read-finishing, after-last, on-offer, on-put-ack}
 use Rattle.model.specs.Deliveries.{on-query, on-have, on-back-ack, on-reply, on-fan, on-relay, on, received}
@@ -122,7 +122,7 @@ module _ {F : Type 0} (rule : Rule) (s : State F) where
   -- What goes to all the replicas fits, where it suits them and its line can have it.
   pub all-addressed : (kind : MessageKind) (n : ℕ) (from : Party) (x : Held F)
       → ((c : ℕ) → c < rule .size → suits rule s kind from (Party.Replica c) ≡ true) → in-journal s n ≡ true
-      → booked s kind (line s n) ≡ true
+      → recorded s kind (line s n) ≡ true
       → All (Fits rule s) (to-all (rule .size) kind n from x)
   all-addressed kind n from x to j b =
       all-to-all kind n from x (Fits rule s) (rule .size) (λ c l. (and-from _ _ (to c l) j, b))
@@ -159,7 +159,7 @@ module _ {F : Type 0} (rule : Rule) (s : State F) (tables : Tables rule s) where
         (λ _. finish-safe exchanges) (λ _. (reader-changed rule s tables r d inside p, tt))
 
     placing-safe : in-journal s (d .operation) ≡ true → own-read r (line s (d .operation)) ≡ true
-        → booked s MessageKind.Back (line s (d .operation)) ≡ true
+        → recorded s MessageKind.Back (line s (d .operation)) ≡ true
         → a-reader s (Party.Reader r) ≡ true
         → Safe rule (sending (with-reader s r (placing d))
         (to-all (rule .size) MessageKind.Back (d .operation) (Party.Reader r) (best d)))

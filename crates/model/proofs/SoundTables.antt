@@ -21,7 +21,7 @@ use Rattle.model.specs.declared.messages.Message.{Message}
 use Rattle.model.specs.declared.journal.Operation.{Operation}
 use Rattle.model.specs.State.{State, new-reader, reader, line}
 use Rattle.model.specs.Sound.{each, reader-within, mark-within, sets-within, a-reader, a-replica, suits, in-journal}
-use Rattle.model.specs.Sound.{addressed, messages-addressed, serves, owned, booked, messages-booked, idle, own-read}
+use Rattle.model.specs.Sound.{addressed, messages-addressed, serves, owned, recorded, messages-recorded, idle, own-read}
 use Rattle.model.specs.Sound.{is-read, is-reader, placed, readers-placed, sound}
 use Rattle.model.proofs.Items.{Passes, each-tells, each-from-all, places-tell, from-places}
 
@@ -31,7 +31,7 @@ Mark-in rule k = mark-within rule k ≡ true
 module _ {F : Type 0} where
   -- A message is addressed and its line can have it.
   abbrev pub Fits : Rule → State F → Message F → Type 0
-  Fits rule s m = (addressed rule s m ≡ true) × (booked s (m .kind) (line s (m .operation)) ≡ true)
+  Fits rule s m = (addressed rule s m ≡ true) × (recorded s (m .kind) (line s (m .operation)) ≡ true)
 
   abbrev pub Reader-in : Rule → Reader F → Type 0
   Reader-in rule d = reader-within rule d ≡ true
@@ -49,28 +49,28 @@ module _ {F : Type 0} where
   both P Q [] p q = tt
   both P Q (m ∷ l) p q = ((p .0, q .0), both P Q l (p .1) (q .1))
 
-  abbrev booked-in : State F → Message F → Bool
-  booked-in s m = booked s (m .kind) (line s (m .operation))
+  abbrev recorded-in : State F → Message F → Bool
+  recorded-in s m = recorded s (m .kind) (line s (m .operation))
 
   -- What the test tells, and what it takes to pass it
 
   pub sound-tells : (rule : Rule) (s : State F) → sound rule s ≡ true → Tables rule s
-  unfolding sound sets-within messages-addressed messages-booked readers-placed
+  unfolding sound sets-within messages-addressed messages-recorded readers-placed
   sound-tells rule s e =
-      let a = and-parts (sets-within rule s && messages-addressed rule s && messages-booked s) (readers-placed s) e in
-      let b = and-parts (sets-within rule s && messages-addressed rule s) (messages-booked s) (a .0) in
+      let a = and-parts (sets-within rule s && messages-addressed rule s && messages-recorded s) (readers-placed s) e in
+      let b = and-parts (sets-within rule s && messages-addressed rule s) (messages-recorded s) (a .0) in
       let c = and-parts (sets-within rule s) (messages-addressed rule s) (b .0) in
       let d = and-parts (each (reader-within rule) (s .readers)) (each (mark-within rule) (s .marks)) (c .0) in
       record {
         readers-in = each-tells (reader-within rule) (s .readers) (d .0);
         marks-in = each-tells (mark-within rule) (s .marks) (d .1);
-        all-fit = both (Passes (addressed rule s)) (Passes (booked-in s)) (s .messages)
-            (each-tells (addressed rule s) (s .messages) (c .1)) (each-tells (booked-in s) (s .messages) (b .1));
+        all-fit = both (Passes (addressed rule s)) (Passes (recorded-in s)) (s .messages)
+            (each-tells (addressed rule s) (s .messages) (c .1)) (each-tells (recorded-in s) (s .messages) (b .1));
         all-placed = λ r h. rw zero-add at (places-tell (placed s) (new-reader (s .start)) 0 (s .readers) (a .1) r h);
       }
 
   pub tables-sound : (rule : Rule) (s : State F) → Tables rule s → sound rule s ≡ true
-  unfolding sound sets-within messages-addressed messages-booked readers-placed
+  unfolding sound sets-within messages-addressed messages-recorded readers-placed
   tables-sound rule s t =
       and-from _ _
       (and-from _ _
@@ -79,8 +79,8 @@ module _ {F : Type 0} where
       (each-from-all (mark-within rule) (s .marks) (t .marks-in)))
       (each-from-all (addressed rule s) (s .messages)
       (all-weaker (Fits rule s) (Passes (addressed rule s)) (λ m h. h .0) (s .messages) (t .all-fit))))
-      (each-from-all (booked-in s) (s .messages)
-      (all-weaker (Fits rule s) (Passes (booked-in s)) (λ m h. h .1) (s .messages) (t .all-fit))))
+      (each-from-all (recorded-in s) (s .messages)
+      (all-weaker (Fits rule s) (Passes (recorded-in s)) (λ m h. h .1) (s .messages) (t .all-fit))))
       (from-places (placed s) (new-reader (s .start)) 0 (s .readers) (λ r h. rw zero-add (t .all-placed r h)))
 
   -- Later states: as many readers, and the lines of before are of the same operations

@@ -32,7 +32,7 @@ use Rattle.model.specs.declared.answers.Reply.{Reply}
 use Rattle.model.specs.declared.answers.Refusal.{Refusal}
 use Rattle.model.specs.State.{State, Held, index, unused, new-reader, no-line, no-message, replica, reader, message, line, without, without-message}
 use Rattle.model.specs.Records.{one-sent, reading, reader-halted, writing, writer-halted, replica-halted}
-use Rattle.model.specs.Sound.{each, each-from, addressed, suits, booked, placed, in-journal, messages-addressed, messages-booked, readers-placed, sets-within, sound, is-round-read, is-relay-read}
+use Rattle.model.specs.Sound.{each, each-from, addressed, suits, recorded, placed, in-journal, messages-addressed, messages-recorded, readers-placed, sets-within, sound, is-round-read, is-relay-read}
 use Rattle.model.specs.Deliveries.{Effect, to-all, in-first, received}
 use Rattle.model.specs.Steps.{Outcome, declined, counted, posted, outcome, next-number, to-write, write, opening-phase, opening-message, read, deliver, dropped, duplicated, halt, done, tests, first-of, refusal, overfull, settled, step, no-place}
 use Rattle.model.specs.Claims.{In, asked, of-operation, limit}
@@ -109,17 +109,17 @@ module _ {F : Type 0} where
 
   pub record Sound-parts (rule : Rule) (s : State F) : Type 0 where
     pub all-addressed : each (addressed rule s) (s .messages) ≡ true
-    pub all-booked : each (λ m. booked s (m .kind) (line s (m .operation))) (s .messages) ≡ true
+    pub all-recorded : each (λ m. recorded s (m .kind) (line s (m .operation))) (s .messages) ≡ true
     pub all-placed : each-from 0 (placed s) (s .readers) ≡ true
 
   pub sound-parts : (rule : Rule) (s : State F) → sound rule s ≡ true → Sound-parts rule s
-  unfolding sound messages-addressed messages-booked readers-placed
+  unfolding sound messages-addressed messages-recorded readers-placed
   sound-parts rule s e =
-      let a = and-parts (sets-within rule s && messages-addressed rule s && messages-booked s) (readers-placed s) e in
-      let b = and-parts (sets-within rule s && messages-addressed rule s) (messages-booked s) (a .0) in
+      let a = and-parts (sets-within rule s && messages-addressed rule s && messages-recorded s) (readers-placed s) e in
+      let b = and-parts (sets-within rule s && messages-addressed rule s) (messages-recorded s) (a .0) in
       record {
         all-addressed = (and-parts (sets-within rule s) (messages-addressed rule s) (b .0)) .1;
-        all-booked = b .1;
+        all-recorded = b .1;
         all-placed = a .1;
       }
 
@@ -303,8 +303,8 @@ module _ {F : Type 0} where
         handled-stepped place h (received rule (without-message s place) m) (leb-true 1 (m .operation) (b .0))
         (leb-true (m .operation) (length (s .journal)) (b .1))
         (received-handled rule (without-message s place) m (a .0)
-        (each-at (λ (x : Message F). booked s (x .kind) (line s (x .operation))) (s .messages) place
-        (no-message (s .start)) h (parts .all-booked))
+        (each-at (λ (x : Message F). recorded s (x .kind) (line s (x .operation))) (s .messages) place
+        (no-message (s .start)) h (parts .all-recorded))
         (placed-at rule s parts) shaped)
 
     -- A write or a read starts

@@ -114,11 +114,11 @@ abbrev pub owned : {F : Type 0} → State F → OperationKind → Party → Bool
 owned s OperationKind.Write p = a-writer p
 owned s (OperationKind.Read k) p = a-reader s p
 
-abbrev pub booked : {F : Type 0} → State F → MessageKind → Operation F → Bool
-booked s kind o = serves kind (o .kind) && owned s (o .kind) (o .owner)
+abbrev pub recorded : {F : Type 0} → State F → MessageKind → Operation F → Bool
+recorded s kind o = serves kind (o .kind) && owned s (o .kind) (o .owner)
 
-unfoldable pub messages-booked : {F : Type 0} → State F → Bool
-messages-booked s = each (λ m. booked s (m .kind) (line s (m .operation))) (s .messages)
+unfoldable pub messages-recorded : {F : Type 0} → State F → Bool
+messages-recorded s = each (λ m. recorded s (m .kind) (line s (m .operation))) (s .messages)
 
 -- A READER is idle with operation 0, or has a read of its own under way.
 
@@ -147,4 +147,4 @@ readers-placed s = each-from 0 (placed s) (s .readers)
 -- ALL OF IT
 
 unfoldable pub sound : {F : Type 0} → Rule → State F → Bool
-sound rule s = sets-within rule s && messages-addressed rule s && messages-booked s && readers-placed s
+sound rule s = sets-within rule s && messages-addressed rule s && messages-recorded s && readers-placed s

@@ -11,7 +11,7 @@ use Rattle.model.specs.declared.reader.Reader.{Reader}
 use Rattle.model.specs.declared.messages.Message.{Message}
 use Rattle.model.specs.declared.journal.Operation.{Operation}
 use Rattle.model.specs.State.{State, line}
-use Rattle.model.specs.Sound.{suits, in-journal, booked, idle, own-read, placed}
+use Rattle.model.specs.Sound.{suits, in-journal, recorded, idle, own-read, placed}
 use Rattle.register.specs.Judged.{message-sound}
 
 -- The line of an operation passes a test
@@ -27,12 +27,12 @@ module _ {F : Type 0} (s : State F) (n : ℕ) (test : Operation F → Bool) wher
 -- A message, by its parties and by its line
 pub message-judged : {F : Type 0} (rule : Rule) (s : State F) (m : Message F) (parties line-passes : Bool)
     → parties ≡ suits rule s (m .kind) (m .sender) (m .receiver)
-    → line-passes ≡ (in-journal s (m .operation) && booked s (m .kind) (line s (m .operation)))
+    → line-passes ≡ (in-journal s (m .operation) && recorded s (m .kind) (line s (m .operation)))
     → (parties && line-passes) ≡ message-sound rule s m
 message-judged rule s m parties line-passes p q =
     ap₂ (λ a b. a && b) p q
     ∙ sym (and-assoc (suits rule s (m .kind) (m .sender) (m .receiver)) (in-journal s (m .operation))
-    (booked s (m .kind) (line s (m .operation))))
+    (recorded s (m .kind) (line s (m .operation))))
 
 -- A reader with an operation under way
 

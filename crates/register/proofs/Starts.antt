@@ -122,13 +122,13 @@ module _ {F : Type 0} (start : F) (rule : Rule) (n : Numbers) (t : Tables F) (ke
         let answer : n .lines + 1 ≡ suc (length (take (n .lines) (t .journal))) = omega arith in
         let counts = line-counted kind message from to x in
         let front = take-stored messages-now (t .messages) (n .waiting + n .replicas) messages-long in
-        let book = take-stored lines-now (t .journal) (n .lines + 1) lines-long in
+        let lines = take-stored lines-now (t .journal) (n .lines + 1) lines-long in
         record {
           answer = ap (λ (i : ℕ). Reply.Started i) answer;
           state =
               ap₂ (λ (ms : List (Message F)) (js : List (Operation F)).
               with-tables s w (t .replicas) ds (t .marks) ms js (n .finished))
-              (front ∙ sym messages-same) (book ∙ sym counts);
+              (front ∙ sym messages-same) (lines ∙ sym counts);
           messages = ap (λ (ms : List (Message F)). stored ms (t .messages)) (sym messages-same);
           journal = ap (λ (js : List (Operation F)). stored js (t .journal)) (sym counts);
           kept = record {

@@ -13,7 +13,7 @@ use Rattle.model.specs.declared.messages.Message.{Message}
 use Rattle.model.specs.declared.journal.Operation.{Operation}
 use Rattle.model.specs.State.{State, line}
 use Rattle.model.specs.Sound.{each, each-from, reader-within, mark-within, sets-within, a-writer, a-reader, a-replica}
-use Rattle.model.specs.Sound.{suits, in-journal, addressed, messages-addressed, serves, owned, booked, messages-booked}
+use Rattle.model.specs.Sound.{suits, in-journal, addressed, messages-addressed, serves, owned, recorded, messages-recorded}
 use Rattle.model.specs.Sound.{placed, readers-placed, sound}
 use Rattle.register.specs.Judged.{of-size, judged, reader-sound, message-sound}
 use Rattle.register.proofs.Passing.{each-placed}
@@ -43,7 +43,7 @@ each-and-from : {A : Type 0} (f : A → Bool) (g : ℕ → A → Bool) (xs : Lis
 each-and-from f g xs =
     ap (λ b. b && each-from 0 g xs) (each-placed f 0 xs) ∙ each-from-both (λ k. f) g 0 xs
 
--- sets of readers and of marks, messages addressed, messages booked, readers placed: by table
+-- sets of readers and of marks, messages addressed, messages recorded, readers placed: by table
 by-table : (r k a b p : Bool) → ((((r && k) && a) && b) && p) ≡ (((r && p) && k) && (a && b))
 by-table false k a b p = refl
 by-table true k a b true = and-true ((k && a) && b) ∙ and-assoc k a b
@@ -105,14 +105,14 @@ module _ {F : Type 0} (size : ℕ) (start : F) (readers : List (Reader F)) where
 
 sound-by-table : {F : Type 0} (rule : Rule) (s : State F)
     → sound rule s ≡ all-tables (rule .size) (s .start) (s .readers) (s .marks) (s .journal) (s .messages)
-unfolding sound sets-within messages-addressed messages-booked readers-placed
+unfolding sound sets-within messages-addressed messages-recorded readers-placed
 sound-by-table rule s =
     by-table (each (reader-within rule) (s .readers)) (each (mark-within rule) (s .marks))
-    (each (addressed rule s) (s .messages)) (each (λ m. booked s (m .kind) (line s (m .operation))) (s .messages))
+    (each (addressed rule s) (s .messages)) (each (λ m. recorded s (m .kind) (line s (m .operation))) (s .messages))
     (each-from 0 (placed s) (s .readers))
     ∙ ap₂ (λ a b. (a && each (mark-within rule) (s .marks)) && b)
     (each-and-from (reader-within rule) (placed s) (s .readers))
-    (each-both (addressed rule s) (λ m. booked s (m .kind) (line s (m .operation))) (s .messages)
+    (each-both (addressed rule s) (λ m. recorded s (m .kind) (line s (m .operation))) (s .messages)
     ∙ ap (λ test. each test (s .messages)) (fun-ext (message-parts rule s)))
 
 -- What the two tests of the parts in use answered, joined.

@@ -7,7 +7,7 @@ use Rattle.model.specs.declared.reader.Reader.{Reader}
 use Rattle.model.specs.declared.messages.Message.{Message}
 use Rattle.model.specs.declared.journal.Operation.{Operation}
 use Rattle.model.specs.State.{State, new-writer, line}
-use Rattle.model.specs.Sound.{reader-within, addressed, booked, placed}
+use Rattle.model.specs.Sound.{reader-within, addressed, recorded, placed}
 
 -- A rule that has this size, and no set that ends a wait or keeps a figure.
 abbrev pub of-size : ℕ → Rule
@@ -34,4 +34,4 @@ reader-sound rule s r d = reader-within rule d && placed s r d
 
 -- A message is addressed, and its line is of an operation that it can serve.
 abbrev pub message-sound : {F : Type 0} → Rule → State F → Message F → Bool
-message-sound rule s m = addressed rule s m && booked s (m .kind) (line s (m .operation))
+message-sound rule s m = addressed rule s m && recorded s (m .kind) (line s (m .operation))

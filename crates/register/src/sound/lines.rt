@@ -6,7 +6,7 @@ ghost use Rattle.std.specs.Options.{Cases as BySome};
 ghost use Rattle.model.specs.declared.reader.Reader.{Reader as ReaderOf};
 ghost use Rattle.model.specs.declared.journal.Operation.{Operation as Line};
 ghost use Rattle.model.specs.State.{line as lineOf};
-ghost use Rattle.model.specs.Sound.{in-journal as inJournal, serves as isServed, owned as isOwned, booked as isBooked};
+ghost use Rattle.model.specs.Sound.{in-journal as inJournal, serves as isServed, owned as isOwned, recorded as isBooked};
 ghost use Rattle.model.specs.Sound.{is-write as isWrite, is-relay-read as isRelayRead, is-round-read as isRoundRead};
 ghost use Rattle.register.specs.Judged.{judged};
 use super::parties::is_reader;
@@ -86,7 +86,7 @@ pub fn owned<F: Copy>(readers: &[Reader<F>], kind: OperationKind, owner: Party) 
 }
 
 /// Whether a message of this kind serves the line, and the line's owner is one who can have it.
-pub fn booked<F: Copy>(readers: &[Reader<F>], kind: MessageKind, line: &Operation<F>) -> bool
+pub fn recorded<F: Copy>(readers: &[Reader<F>], kind: MessageKind, line: &Operation<F>) -> bool
     ensures { λ r. ⌜ ((start : F) (lines : List (Line F)) →
         r ≡ isBooked (judged start (now (readers .entry)) lines) kind (now (line .entry))) ⌝ }
 {

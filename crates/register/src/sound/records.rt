@@ -5,10 +5,10 @@ ghost use mathlib.Core.List.{List};
 ghost use Prim.Native.Nat.{_≤_};
 ghost use Rattle.model.specs.declared.reader.Reader.{Reader as ReaderOf};
 ghost use Rattle.model.specs.State.{line as lineOf};
-ghost use Rattle.model.specs.Sound.{in-journal as inJournal, booked as isBooked, own-read as isOwnRead, placed as isPlaced};
+ghost use Rattle.model.specs.Sound.{in-journal as inJournal, recorded as isBooked, own-read as isOwnRead, placed as isPlaced};
 ghost use Rattle.register.specs.Judged.{of-size as ofSize, judged, reader-sound as readerSound, message-sound as messageSound};
-use super::lines::booked;
 use super::lines::line_of;
+use super::lines::recorded;
 use super::parties::suits;
 use super::sets::reader_within;
 use model::Message;
@@ -67,7 +67,7 @@ pub fn reader_sound<F: Copy>(
 }
 
 /// Whether the operation is in the journal, and its line can have a waiting message of this kind.
-fn line_booked<F: Copy>(
+fn line_recorded<F: Copy>(
     readers: &[Reader<F>],
     lines: &[Operation<F>],
     kind: MessageKind,
@@ -79,7 +79,7 @@ fn line_booked<F: Copy>(
         (lineOf (judged start (now (readers .entry)) (now (lines .entry))) operation))) ⌝ }
 {
     match line_of(lines, operation) {
-        Some(line) => booked(readers, kind, line),
+        Some(line) => recorded(readers, kind, line),
         None => false,
     }
 }
@@ -102,5 +102,5 @@ pub fn message_sound<F: Copy>(
         message.sender,
         message.receiver,
     )
-        && line_booked(readers, lines, message.kind, message.operation)
+        && line_recorded(readers, lines, message.kind, message.operation)
 }

@@ -7,8 +7,8 @@ use Rattle.register.proofs.sound.records.message_sound.Needs as need
 pub returns-then-suits : need.returns-then-suits
 returns-then-suits g c = λ start.
     message-judged (of-size (c .args .size)) (judged start (c .args .readers .now) (c .args .lines .now))
-    (c .args .message .now) true (c .line-booked .result) (c .if-suits .ensures tt start (c .args .lines .now))
-    (c .line-booked .ensures start)
+    (c .args .message .now) true (c .line-recorded .result) (c .if-suits .ensures tt start (c .args .lines .now))
+    (c .line-recorded .ensures start)
 
 pub returns-else-suits : need.returns-else-suits
 returns-else-suits g c = λ start.
