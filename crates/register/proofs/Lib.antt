@@ -11,3 +11,4 @@ pub mod Halts
 pub mod SoundRecords
 pub mod Passing
 pub mod WholeTables
+pub mod Histories

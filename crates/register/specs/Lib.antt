@@ -4,3 +4,4 @@ pub mod Starting
 pub mod Doing
 pub mod Waiting
 pub mod Judged
+pub mod Histories
