@@ -5,3 +5,4 @@ pub mod Doing
 pub mod Waiting
 pub mod Judged
 pub mod Histories
+pub mod Commissioning

@@ -3,6 +3,7 @@
 //! For now its parts: the check of the tables, and the steps behind it. None is public before the claims stand on it.
 mod halting;
 mod numbers;
+mod service;
 mod sound;
 mod starting;
 mod tools;
