@@ -1,7 +1,7 @@
 -- What a delivered message does, as a value that is worked out before any record is changed.
 use mathlib.Core.Path.{_≡_}
 use mathlib.Core.List.{List, [], _∷_}
-use mathlib.Core.Bool.{Bool, true, false, cond, _&&_, not}
+use mathlib.Core.Bool.{Bool, true, false, cond, _&&_, _||_, not}
 use Prim.Native.Nat.{ℕ, _+_, _*_, _≤_}
 use lib.Dec.{eqb, ltb}
 use lib.ListN.{length, getD, set}
@@ -21,6 +21,7 @@ use Rattle.model.specs.declared.marks.RelayMark.{RelayMark}
 use Rattle.model.specs.declared.messages.Message.{Message}
 use Rattle.model.specs.declared.journal.Operation.{Operation}
 use Rattle.model.specs.declared.answers.Reply.{Reply}
+use Rattle.model.specs.Stamps.{Stamp, rank}
 use Rattle.model.specs.State.{State, Held, index, unused, new-message, new-mark, replica, reader, line, with-tables}
 use Rattle.model.specs.Records.{took, acknowledged, writer-freed, best, heard, confirmed, lowered, placing, reader-freed}
 use Rattle.model.specs.Records.{marked, mark-replied}
@@ -133,6 +134,10 @@ meant MessageKind.Reply p = in-relay p
 -- Whether m of replica c counts.
 abbrev pub counts : {F : Type 0} → Reader F → Message F → ℕ → Bool
 counts d m c = eqb (d .operation) (m .operation) && meant (m .kind) (d .phase) && not (bits (d .replies) c)
+
+-- Whether a relayed reply with this stamp becomes the best.
+abbrev pub lowers : {F : Type 0} → Reader F → Stamp → Bool
+lowers d t = eqb (d .replies) 0 || ltb (rank t) (rank (d .«best_stamp»))
 
 -- A reader in this phase after m of replica c, which counts.
 abbrev pub hears : {F : Type 0} → Reader F → Message F → ℕ → Phase → Reader F
