@@ -1,3 +1,4 @@
 pub mod Comparing
 pub mod Counting
+pub mod Deliverables
 pub mod Reacting

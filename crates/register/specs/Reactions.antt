@@ -2,7 +2,7 @@
 use mathlib.Core.Path.{_≡_}
 use mathlib.Core.List.{List, [], _∷_}
 use mathlib.Core.Bool.{Bool, true, false, cond, _&&_, _||_, not}
-use Prim.Native.Nat.{ℕ, _+_, _*_, _≤_}
+use Prim.Native.Nat.{ℕ, _+_, _*_}
 use lib.Dec.{eqb, ltb}
 use lib.ListN.{length, getD, set}
 use Rattle.std.specs.declared.option.Option.{Option}
@@ -259,12 +259,10 @@ abbrev pub beside-messages : {F : Type 0} → F → Numbers → List (Replica F)
 beside-messages start n replicas readers marks journal = view start n (tables replicas readers marks [] journal)
 
 -- The tables fit, and m is such a message as sound tables have.
-pub record Deliverable {F : Type 0} (rule : Rule) (n : Numbers) (s : State F) (journal : List (Operation F))
-    (m : Message F) : Type 0 where
+pub record Deliverable {F : Type 0} (rule : Rule) (n : Numbers) (s : State F) (m : Message F) : Type 0 where
   pub kept : Kept n
   pub replicas : length (s .replicas) ≡ n .replicas
   pub readers : length (s .readers) ≡ n .readers
   pub marks : length (s .marks) ≡ n .replicas * n .readers
-  pub lines : n .lines ≤ length journal
   pub addressed : addressed rule s m ≡ true
   pub booked : booked s (m .kind) (line s (m .operation)) ≡ true

@@ -8,6 +8,7 @@ ghost use Rattle.register.specs.Reactions.{offered as afterOffer, outdated, to
 use crate::reaction::Post;
 use crate::reaction::Reaction;
 use crate::reaction::answer;
+use crate::reaction::bare_answer;
 use crate::reaction::index;
 use model::Message;
 use model::MessageKind;
@@ -106,11 +107,11 @@ pub fn to_replica<R: QuorumSystem, F: Copy>(
     }
     match message.kind {
         MessageKind::Put => {
-            let ack = answer(owner, message, MessageKind::PutAck, 0, start);
+            let ack = bare_answer(owner, message, MessageKind::PutAck, start);
             Reaction::at_replica(c, offered(replica, message), None, ack)
         }
         MessageKind::Back => {
-            let ack = answer(owner, message, MessageKind::BackAck, 0, start);
+            let ack = bare_answer(owner, message, MessageKind::BackAck, start);
             Reaction::at_replica(c, offered(replica, message), None, ack)
         }
         MessageKind::Query => {

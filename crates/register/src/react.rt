@@ -35,7 +35,7 @@ pub fn react<R: QuorumSystem, F: Copy>(
     journal: &[Operation<F>],
     message: Message<F>,
 ) -> Reaction<F>
-    requires { ⌜ Deliverable (ruleFor R·QuorumSystem (now rule) (now numbers .replicas)) (now numbers) (besideMessages start (now numbers) (now replicas) (now readers) (now marks) (now journal)) (now journal) message ⌝ }
+    requires { ⌜ Deliverable (ruleFor R·QuorumSystem (now rule) (now numbers .replicas)) (now numbers) (besideMessages start (now numbers) (now replicas) (now readers) (now marks) (now journal)) message ⌝ }
     ensures { λ r. ⌜ r ≡ reaction (ruleFor R·QuorumSystem (now (rule .entry)) (now (numbers .entry) .replicas)) (besideMessages start (now (numbers .entry)) (now (replicas .entry)) (now (readers .entry)) (now (marks .entry)) (now (journal .entry))) message ⌝ }
 {
     let line = line_of(journal, message.operation);

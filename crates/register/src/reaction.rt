@@ -1,6 +1,5 @@
 ghost use mathlib.Core.Path.{_≡_};
-ghost use Prim.Native.Nat.{ℕ};
-ghost use Rattle.model.specs.State.{Held, index as indexOf};
+ghost use Rattle.model.specs.State.{index as indexOf, unused};
 ghost use Rattle.register.specs.Reactions.{nothing as noReaction, posting as onlyPost, at-replica as replicaReaction};
 ghost use Rattle.register.specs.Reactions.{at-reader as readerReaction, at-writer as writerReaction, answer-to as answerTo};
 use model::Message;
@@ -150,6 +149,18 @@ pub fn answer<F: Copy>(
         stamp,
         figure,
     })
+}
+
+/// An answer that carries nothing: the fields that it does not use hold stamp 0 and the starting figure.
+pub fn bare_answer<F: Copy>(
+    owner: Party,
+    message: &Message<F>,
+    kind: MessageKind,
+    start: F,
+) -> Post<F>
+    ensures { λ r. ⌜ r ≡ answerTo owner (now (message .entry)) kind (unused start) ⌝ }
+{
+    answer(owner, message, kind, 0, start)
 }
 
 /// The number of a party among its kind; the writer's is 0.

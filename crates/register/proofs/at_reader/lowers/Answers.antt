@@ -1,9 +1,7 @@
-use native.Mathlib.Omega.{arith}
 use borrow.Author.Needs.{needs}
-use Rattle.std.proofs.shelf.Ways.{tells}
 use Rattle.model.specs.Stamps.{rank}
 use Rattle.register.proofs.at_reader.lowers.Needs as need
 
-pub returns : need.returns
+pub returns-else-reader-eq0 : need.returns-else-reader-eq0
 unfolding rank
-returns g c = search needs
+returns-else-reader-eq0 g c = search needs
