@@ -12,3 +12,7 @@ pub mod SoundRecords
 pub mod Passing
 pub mod WholeTables
 pub mod Histories
+pub mod Comparing
+pub mod Heard
+pub mod Deliverables
+pub mod Reacting

@@ -6,3 +6,4 @@ pub mod Waiting
 pub mod Judged
 pub mod Histories
 pub mod Commissioning
+pub mod Reactions
