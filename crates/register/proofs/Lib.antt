@@ -1,4 +1,2 @@
-pub mod Comparing
-pub mod Counting
 pub mod Deliverables
 pub mod Reacting
