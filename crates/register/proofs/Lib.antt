@@ -1,2 +1,3 @@
-pub mod Deliverables
 pub mod Reacting
+pub mod Deliverables
+pub mod Arrivals

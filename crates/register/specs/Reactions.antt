@@ -157,6 +157,9 @@ hears d m c Phase.Second = confirmed d c
 hears d m c Phase.Relay =
     cond (lowers d (m .stamp)) (replied-by d c (carried m) (d .holders)) (replied-by d c (best d) (d .holders))
 
+abbrev pub after-message : {F : Type 0} → Reader F → Message F → ℕ → Reader F
+after-message d m c = hears d m c (d .phase)
+
 -- What a reader does in this phase after a message that counted.
 abbrev pub move-in : {F : Type 0} → Family → Family → ReadKind → Reader F → Phase → Move
 move-in round hold kind d Phase.Idle = Move.Wait
@@ -185,7 +188,7 @@ after-heard round hold r d (OperationKind.Read kind) = moved r d (next-move roun
 
 abbrev pub reader-reaction : {F : Type 0} → Family → Family → ℕ → Reader F → OperationKind → Message F → ℕ → Reaction F
 reader-reaction round hold r d kind m c =
-    cond (counts d m c) (after-heard round hold r (hears d m c (d .phase)) kind) nothing
+    cond (counts d m c) (after-heard round hold r (after-message d m c) kind) nothing
 
 abbrev pub to-reader : {F : Type 0} → Family → Family → ℕ → Reader F → OperationKind → Message F → Reaction F
 to-reader round hold r d kind m =
