@@ -13,6 +13,6 @@ pub mod Passing
 pub mod WholeTables
 pub mod Histories
 pub mod Comparing
-pub mod Heard
 pub mod Deliverables
 pub mod Reacting
+pub mod Arrivals

@@ -20,9 +20,10 @@ use Rattle.model.specs.declared.marks.RelayMark.{RelayMark}
 use Rattle.model.specs.declared.reader.Reader.{Reader}
 use Rattle.model.specs.declared.messages.Message.{Message}
 use Rattle.model.specs.Stamps.{Stamp, rank}
-use Rattle.model.specs.State.{State, Held, index, new-mark, reader, replica, line, mark, mark-place}
+use Rattle.model.specs.State.{State, Held, index, unused, new-mark, reader, replica, line, mark, mark-place}
 use Rattle.model.specs.State.{with-writer, with-held, with-mark, with-reader, with-messages}
-use Rattle.model.specs.Records.{acknowledged, writer-freed, best, replied-by, heard, confirmed, lowered, marked, mark-replied}
+use Rattle.model.specs.Records.{took, acknowledged, writer-freed, best, replied-by, heard, confirmed, lowered}
+use Rattle.model.specs.Records.{marked, mark-replied}
 use Rattle.model.specs.Deliveries.{Effect, quiet, sending, carried, answer, on-offer, on-query, on-fan, on-put-ack}
 use Rattle.model.specs.Deliveries.{on-relay, after-relay, finishing, written, on-have, on-have-at, on-back-ack-at, on-reply-at, is-quick, second-round, read-finishing}
 use Rattle.model.specs.Deliveries.{in-first, in-second, in-relay, after-have, after-last, on-back-ack, on-reply, on, received}
@@ -31,7 +32,7 @@ use Rattle.register.specs.declared.reaction.Post.{Post}
 use Rattle.register.specs.declared.reaction.Reaction.{Reaction}
 use Rattle.register.specs.declared.reaction.Move.{Move}
 use Rattle.register.specs.Reactions.{nothing, at-replica, at-writer, finish-with, move-in, next-move}
-use Rattle.register.specs.Reactions.{holding, offered, answer-to, after-mark, replica-reaction}
+use Rattle.register.specs.Reactions.{holding, offered, answer-to, noted, after-mark, to-mark, replica-reaction, raised, lowers}
 use Rattle.register.specs.Reactions.{hears, moved, after-heard, counts, reader-reaction}
 use Rattle.register.specs.Reactions.{writer-reaction, reaction, applied, changed}
 
@@ -75,18 +76,49 @@ record Same {F : Type 0} (d e : Reader F) : Type 0 where
 replied-same : {F : Type 0} (d : Reader F) (c : ℕ) (x : Held F) (holders : ℕ) → Same d (replied-by d c x holders)
 replied-same d c x holders = record { phase = refl; operation = refl }
 
-heard-same : {F : Type 0} (d : Reader F) (c : ℕ) (x : Held F) → Same d (heard d c x)
-unfolding heard
-heard-same d c x =
-    cond-both (ltb (rank (d .«best_stamp»)) (rank (x .stamp))) _ _ (Same d) (λ _. replied-same d c x (joined 0 c))
-    (λ _. cond-both (eqb (rank (d .«best_stamp»)) (rank (x .stamp))) _ _ (Same d)
+raised-same : {F : Type 0} (d : Reader F) (c : ℕ) (x : Held F) → Same d (raised d c x)
+raised-same d c x =
+    cond-both (ltb (d .«best_stamp») (x .stamp)) _ _ (Same d) (λ _. replied-same d c x (joined 0 c))
+    (λ _. cond-both (eqb (d .«best_stamp») (x .stamp)) _ _ (Same d)
     (λ _. replied-same d c (best d) (joined (d .holders) c)) (λ _. replied-same d c (best d) (d .holders)))
 
-lowered-same : {F : Type 0} (d : Reader F) (c : ℕ) (x : Held F) → Same d (lowered d c x)
-unfolding lowered
-lowered-same d c x =
-    cond-both (eqb (d .replies) 0 || ltb (rank (x .stamp)) (rank (d .«best_stamp»))) _ _ (Same d)
-    (λ _. replied-same d c x (d .holders)) (λ _. replied-same d c (best d) (d .holders))
+-- The model's records, with stamps compared as numbers
+
+module _ {F : Type 0} where
+  heard-raised : (d : Reader F) (c : ℕ) (x : Held F) → heard d c x ≡ raised d c x
+  unfolding heard rank
+  heard-raised d c x = refl
+
+  lowered-is : (d : Reader F) (c : ℕ) (x : Held F)
+      → lowered d c x ≡ cond (lowers d (x .stamp)) (replied-by d c x (d .holders)) (replied-by d c (best d) (d .holders))
+  unfolding lowered rank
+  lowered-is d c x = refl
+
+  lowered-same : (d : Reader F) (c : ℕ) (x : Held F) → Same d
+      (cond (lowers d (x .stamp)) (replied-by d c x (d .holders)) (replied-by d c (best d) (d .holders)))
+  lowered-same d c x =
+      cond-both (lowers d (x .stamp)) _ _ (Same d) (λ _. replied-same d c x (d .holders))
+      (λ _. replied-same d c (best d) (d .holders))
+
+  -- The replica that holds what it takes.
+  abbrev took-by : Replica F → Message F → Replica F
+  took-by x m = record {
+    stamp = (took (holding x) (carried m)) .stamp;
+    figure = (took (holding x) (carried m)) .figure;
+    halted = x .halted;
+  }
+
+  took-offered : (x : Replica F) (m : Message F) → took-by x m ≡ offered x m
+  unfolding rank
+  took-offered x m = go (ltb (x .stamp) (m .stamp))
+    where
+      go : (b : Bool) → record {
+        stamp = (cond b (carried m) (holding x)) .stamp;
+        figure = (cond b (carried m) (holding x)) .figure;
+        halted = x .halted;
+      } ≡ cond b (record { stamp = m .stamp; figure = m .figure; halted = x .halted }) x
+      go true = refl
+      go false = refl
 
 module _ {F : Type 0} (rule : Rule) (s : State F) where
   abbrev come : Reaction F → Effect F
@@ -111,7 +143,7 @@ module _ {F : Type 0} (rule : Rule) (s : State F) where
           (sent kind (Party.Replica c)) kind
 
       abbrev taken : Replica F
-      taken = offered (replica s c) (sent MessageKind.Relay (Party.Replica c))
+      taken = took-by (replica s c) (sent MessageKind.Relay (Party.Replica c))
 
       -- The replica has taken what was relayed, and its mark is k: it replies, or only keeps the mark, or keeps none.
       module _ (k : RelayMark) where
@@ -145,19 +177,31 @@ module _ {F : Type 0} (rule : Rule) (s : State F) where
             splits come (rule .round (bits (k .relayers)) && not (k .replied)) _ _ _ _ (λ _. answers) (λ _. waits)
 
       relay-reacts : on-relay rule s (sent MessageKind.Relay (Party.Replica c)) ≡ come (reacting MessageKind.Relay)
-      unfolding on-relay
+      unfolding on-relay marked
       relay-reacts =
           splits come (ltb n ((mark s c (index ((line s n) .owner))) .operation)) _ _ _ _ (λ _. ends new-mark)
-          (λ _. after (marked (mark s c (index ((line s n) .owner))) n (index from)))
+          (λ _. after (noted (mark s c (index ((line s n) .owner))) n (index from)))
+          ∙ ap (λ x. come (to-mark (rule .round) c x ((line s n) .owner) (sent MessageKind.Relay (Party.Replica c))
+          (mark-place s c (index ((line s n) .owner))) (mark s c (index ((line s n) .owner)))))
+          (took-offered (replica s c) (sent MessageKind.Relay (Party.Replica c)))
+
+      offer-reacts : (kind ack : MessageKind) → on-offer s (sent kind (Party.Replica c)) ack
+          ≡ come (at-replica c (offered (replica s c) (sent kind (Party.Replica c))) None
+          (answer-to ((line s n) .owner) (sent kind (Party.Replica c)) ack (unused (s .start))))
+      unfolding applied on-offer
+      offer-reacts kind ack =
+          ap (λ x. come (at-replica c x None
+          (answer-to ((line s n) .owner) (sent kind (Party.Replica c)) ack (unused (s .start)))))
+          (took-offered (replica s c) (sent kind (Party.Replica c)))
 
       replica-reacts : (kind : MessageKind) → suits rule s kind from (Party.Replica c) ≡ true
           → on rule kind s (sent kind (Party.Replica c)) ≡ come (reacting kind)
-      unfolding applied on on-offer on-query on-fan
-      replica-reacts MessageKind.Put e = refl
+      unfolding applied on on-query on-fan
+      replica-reacts MessageKind.Put e = offer-reacts MessageKind.Put MessageKind.PutAck
       replica-reacts MessageKind.PutAck e = never _ e
       replica-reacts MessageKind.Query e = refl
       replica-reacts MessageKind.Have e = never _ e
-      replica-reacts MessageKind.Back e = refl
+      replica-reacts MessageKind.Back e = offer-reacts MessageKind.Back MessageKind.BackAck
       replica-reacts MessageKind.BackAck e = never _ e
       replica-reacts MessageKind.Fan e = refl
       replica-reacts MessageKind.Relay e = relay-reacts
@@ -253,9 +297,10 @@ module _ {F : Type 0} (rule : Rule) (s : State F) where
             splits come (counts d (sent MessageKind.Have (Party.Reader r)) (index from)) _ _ _ _ (λ e.
             let x : Held F = record { stamp = t; figure = f } in
             let was = counting (in-first (d .phase)) e in
-            let same = heard-same d (index from) x in
+            let same = raised-same d (index from) x in
             in-phase MessageKind.Have Phase.First _ (first-tells (d .phase) (was .1)) same
-            (after-first (heard d (index from) x) kind
+            (ap (λ y. after-have rule s r y) (heard-raised d (index from) x)
+            ∙ after-first (raised d (index from) x) kind
             (ap (λ k. (line s k) .kind) (same .operation ∙ was .0) ∙ read)))
             (λ _. idle)
 
@@ -273,7 +318,8 @@ module _ {F : Type 0} (rule : Rule) (s : State F) where
             splits come (counts d (sent MessageKind.Reply (Party.Reader r)) (index from)) _ _ _ _ (λ e.
             let x : Held F = record { stamp = t; figure = f } in
             in-phase MessageKind.Reply Phase.Relay _ (relay-tells (d .phase) (counting (in-relay (d .phase)) e .1))
-            (lowered-same d (index from) x) (after-round (lowered d (index from) x) 3))
+            (lowered-same d (index from) x)
+            (ap (λ y. after-last rule s r y 3) (lowered-is d (index from) x) ∙ after-round _ 3))
             (λ _. idle)
 
       -- The line is a read, since a message to a reader serves one.

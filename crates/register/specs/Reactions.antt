@@ -1,4 +1,5 @@
--- What a delivered message does, as a value that is worked out before any record is changed.
+-- What a delivered message does, as a value that is worked out before any record is changed. Here stamps are compared as
+-- the numbers that they are.
 use mathlib.Core.Path.{_≡_}
 use mathlib.Core.List.{List, [], _∷_}
 use mathlib.Core.Bool.{Bool, true, false, cond, _&&_, _||_, not}
@@ -7,7 +8,7 @@ use lib.Dec.{eqb, ltb}
 use lib.ListN.{length, getD, set}
 use Rattle.std.specs.declared.option.Option.{Option}
 use Rattle.std.specs.declared.option.Option.the-variants.{Some, None}
-use Rattle.quorum.specs.Sets.{Rule, Family, bits}
+use Rattle.quorum.specs.Sets.{Rule, Family, bits, joined}
 use Rattle.quorum.specs.declared.system.QuorumSystem.{Ghosts}
 use Rattle.model.specs.declared.parties.Party.{Party}
 use Rattle.model.specs.declared.reader.Phase.{Phase}
@@ -21,10 +22,8 @@ use Rattle.model.specs.declared.marks.RelayMark.{RelayMark}
 use Rattle.model.specs.declared.messages.Message.{Message}
 use Rattle.model.specs.declared.journal.Operation.{Operation}
 use Rattle.model.specs.declared.answers.Reply.{Reply}
-use Rattle.model.specs.Stamps.{Stamp, rank}
 use Rattle.model.specs.State.{State, Held, index, unused, new-message, new-mark, replica, reader, line, with-tables}
-use Rattle.model.specs.Records.{took, acknowledged, writer-freed, best, heard, confirmed, lowered, placing, reader-freed}
-use Rattle.model.specs.Records.{marked, mark-replied}
+use Rattle.model.specs.Records.{acknowledged, writer-freed, best, replied-by, confirmed, placing, reader-freed, mark-replied}
 use Rattle.model.specs.Deliveries.{Effect, to-all, carried, with-finish, in-first, in-second, in-relay, is-quick}
 use Rattle.model.specs.Sound.{addressed, recorded}
 use Rattle.register.specs.declared.numbers.Numbers.{Numbers}
@@ -69,11 +68,8 @@ holding x = record { stamp = x .stamp; figure = x .figure }
 
 -- A replica after it was offered what m carries.
 abbrev pub offered : {F : Type 0} → Replica F → Message F → Replica F
-offered x m = record {
-  stamp = (took (holding x) (carried m)) .stamp;
-  figure = (took (holding x) (carried m)) .figure;
-  halted = x .halted;
-}
+offered x m =
+    cond (ltb (x .stamp) (m .stamp)) (record { stamp = m .stamp; figure = m .figure; halted = x .halted }) x
 
 -- What m's receiver answers to the owner of the operation.
 abbrev pub answer-to : {F : Type 0} → Party → Message F → MessageKind → Held F → Post F
@@ -82,6 +78,13 @@ answer-to owner m kind x = Post.One (new-message kind (m .operation) (m .receive
 -- Whether m ends at the mark k, since that serves a later operation.
 abbrev pub outdated : RelayMark → ℕ → Bool
 outdated k n = ltb n (k .operation)
+
+-- The mark after replica c relayed for operation n.
+abbrev pub noted : RelayMark → ℕ → ℕ → RelayMark
+noted k n c =
+    cond (ltb (k .operation) n)
+    (record { operation = n; relayers = joined 0 c; replied = false })
+    (record { operation = k .operation; relayers = joined (k .relayers) c; replied = k .replied })
 
 -- Replica c, now x, has the mark k at this place.
 abbrev pub after-mark : {F : Type 0} → Family → ℕ → Replica F → Party → Message F → ℕ → RelayMark → Reaction F
@@ -93,7 +96,7 @@ after-mark round c x owner m place k =
 abbrev pub to-mark : {F : Type 0} → Family → ℕ → Replica F → Party → Message F → ℕ → RelayMark → Reaction F
 to-mark round c x owner m place k =
     cond (outdated k (m .operation)) (at-replica c x None Post.Nothing)
-    (after-mark round c x owner m place (marked k (m .operation) (index (m .sender))))
+    (after-mark round c x owner m place (noted k (m .operation) (index (m .sender))))
 
 -- Replica c is x; the operation's owner is this, and each replica has so many marks.
 abbrev pub replica-reaction : {F : Type 0} → Family → F → ℕ → Replica F → Party → ℕ → List RelayMark → Message F
@@ -135,16 +138,27 @@ meant MessageKind.Reply p = in-relay p
 abbrev pub counts : {F : Type 0} → Reader F → Message F → ℕ → Bool
 counts d m c = eqb (d .operation) (m .operation) && meant (m .kind) (d .phase) && not (bits (d .replies) c)
 
+-- A reader in phase first after what replica c has.
+abbrev pub raised : {F : Type 0} → Reader F → ℕ → Held F → Reader F
+raised d c x =
+    cond (ltb (d .«best_stamp») (x .stamp)) (replied-by d c x (joined 0 c))
+    (cond (eqb (d .«best_stamp») (x .stamp)) (replied-by d c (best d) (joined (d .holders) c))
+    (replied-by d c (best d) (d .holders)))
+
 -- Whether a relayed reply with this stamp becomes the best.
-abbrev pub lowers : {F : Type 0} → Reader F → Stamp → Bool
-lowers d t = eqb (d .replies) 0 || ltb (rank t) (rank (d .«best_stamp»))
+abbrev pub lowers : {F : Type 0} → Reader F → ℕ → Bool
+lowers d t = eqb (d .replies) 0 || ltb t (d .«best_stamp»)
 
 -- A reader in this phase after m of replica c, which counts.
 abbrev pub hears : {F : Type 0} → Reader F → Message F → ℕ → Phase → Reader F
 hears d m c Phase.Idle = d
-hears d m c Phase.First = heard d c (carried m)
+hears d m c Phase.First = raised d c (carried m)
 hears d m c Phase.Second = confirmed d c
-hears d m c Phase.Relay = lowered d c (carried m)
+hears d m c Phase.Relay =
+    cond (lowers d (m .stamp)) (replied-by d c (carried m) (d .holders)) (replied-by d c (best d) (d .holders))
+
+abbrev pub after-message : {F : Type 0} → Reader F → Message F → ℕ → Reader F
+after-message d m c = hears d m c (d .phase)
 
 -- What a reader does in this phase after a message that counted.
 abbrev pub move-in : {F : Type 0} → Family → Family → ReadKind → Reader F → Phase → Move
@@ -174,7 +188,7 @@ after-heard round hold r d (OperationKind.Read kind) = moved r d (next-move roun
 
 abbrev pub reader-reaction : {F : Type 0} → Family → Family → ℕ → Reader F → OperationKind → Message F → ℕ → Reaction F
 reader-reaction round hold r d kind m c =
-    cond (counts d m c) (after-heard round hold r (hears d m c (d .phase)) kind) nothing
+    cond (counts d m c) (after-heard round hold r (after-message d m c) kind) nothing
 
 abbrev pub to-reader : {F : Type 0} → Family → Family → ℕ → Reader F → OperationKind → Message F → Reaction F
 to-reader round hold r d kind m =

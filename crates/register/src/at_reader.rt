@@ -2,7 +2,7 @@ ghost use mathlib.Core.Path.{_≡_};
 ghost use mathlib.Core.Bool.{cond};
 ghost use Prim.Native.Nat.{_<_};
 ghost use Rattle.model.specs.State.{index as indexOf};
-ghost use Rattle.register.specs.Reactions.{counts as countsFor, hears, lowers as lowersBest, next-move as nextMove};
+ghost use Rattle.register.specs.Reactions.{counts as countsFor, after-message as afterMessage, lowers as lowersBest, next-move as nextMove};
 ghost use Rattle.register.specs.Reactions.{moved as movedTo, to-reader as toReader};
 use crate::reaction::Finish;
 use crate::reaction::Move;
@@ -26,7 +26,7 @@ use quorum::joined;
 pub fn hear<F: Copy>(reader: &mut Reader<F>, message: &Message<F>, sender: u32) -> bool
     requires { ⌜ sender < 32 ⌝ }
     ensures counted { λ r. ⌜ r ≡ countsFor (now (reader .entry)) (now (message .entry)) sender ⌝ }
-    ensures heard { λ r. ⌜ now (reader .exit) ≡ cond r (hears (now (reader .entry)) (now (message .entry)) sender (now (reader .entry) .phase)) (now (reader .entry)) ⌝ }
+    ensures heard { λ r. ⌜ now (reader .exit) ≡ cond r (afterMessage (now (reader .entry)) (now (message .entry)) sender) (now (reader .entry)) ⌝ }
 {
     if reader.operation != message.operation || has(reader.replies, sender) {
         return false;

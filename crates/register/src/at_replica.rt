@@ -3,8 +3,7 @@ ghost use mathlib.Core.Bool.{cond, not};
 ghost use Prim.Native.Nat.{_+_, _*_, _<_, _≤_};
 ghost use lib.ListN.{length};
 ghost use Rattle.model.specs.State.{index as indexOf};
-ghost use Rattle.model.specs.Records.{marked};
-ghost use Rattle.register.specs.Reactions.{offered as afterOffer, outdated, to-mark as toMark, to-replica as toReplica};
+ghost use Rattle.register.specs.Reactions.{noted, offered as afterOffer, outdated, to-mark as toMark, to-replica as toReplica};
 use crate::reaction::Post;
 use crate::reaction::Reaction;
 use crate::reaction::answer;
@@ -39,7 +38,7 @@ pub fn offered<F: Copy>(replica: Replica<F>, message: &Message<F>) -> Replica<F>
 pub fn relayed(mark: &mut RelayMark, operation: u16, sender: u32) -> bool
     requires { ⌜ sender < 32 ⌝ }
     ensures counted { λ r. ⌜ r ≡ not (outdated (now (mark .entry)) operation) ⌝ }
-    ensures noted { λ r. ⌜ now (mark .exit) ≡ cond r (marked (now (mark .entry)) operation sender) (now (mark .entry)) ⌝ }
+    ensures changed { λ r. ⌜ now (mark .exit) ≡ cond r (noted (now (mark .entry)) operation sender) (now (mark .entry)) ⌝ }
 {
     if operation < mark.operation {
         return false;

@@ -19,7 +19,7 @@ use quorum::QuorumSystem;
 /// The line of an operation that is in the journal.
 fn line_of<F: Copy>(journal: &[Operation<F>], operation: u16) -> Operation<F>
     requires { ⌜ (1 ≤ operation) × (operation ≤ length (now journal)) ⌝ }
-    ensures { λ r. ⌜ ((lines : ℕ) (d : LineOf F) → operation ≤ lines → r ≡ getD (take lines (now (journal .entry))) (pred operation) d) ⌝ }
+    ensures { λ r. ⌜ ((lines : ℕ) (d : LineOf F) → operation ≤ length (take lines (now (journal .entry))) → r ≡ getD (take lines (now (journal .entry))) (pred operation) d) ⌝ }
 {
     journal[operation as usize - 1]
 }

@@ -36,9 +36,7 @@ index-replicas-c g c = replica-there (c .pre) refl _ (c .in-Replica .is)
 
 pub to-replica-requires : need.to-replica-requires
 to-replica-requires g c κs =
-    let lines = c .args .numbers .now .lines in
-    let its = c .line-of-line .ensures lines (no-line (c .args .start))
-    (within-front _ lines (c .args .journal .now) (line-there (c .pre) refl .1) .0) in
+    let its = c .line-of-line .ensures _ (no-line (c .args .start)) (line-there (c .pre) refl .1) in
     record {
       sender = sender-small (c .pre) refl;
       place = subst (λ o. c .in-Replica .c * c .args .numbers .now .readers + index (o .owner) < length (c .args .marks .now))
@@ -48,25 +46,19 @@ to-replica-requires g c κs =
 
 pub returns-in-Writer : need.returns-in-Writer
 returns-in-Writer g c =
-    let lines = c .args .numbers .now .lines in
-    let its = c .line-of-line .ensures lines (no-line (c .args .start))
-    (within-front _ lines (c .args .journal .now) (line-there (c .pre) refl .1) .0) in
+    let its = c .line-of-line .ensures _ (no-line (c .args .start)) (line-there (c .pre) refl .1) in
     for-writer _ _ (c .args .message) _ _ its (c .in-Writer .is) (c .to-writer .ensures)
 
 pub returns-in-Reader : need.returns-in-Reader
 returns-in-Reader g c =
-    let lines = c .args .numbers .now .lines in
-    let its = c .line-of-line .ensures lines (no-line (c .args .start))
-    (within-front _ lines (c .args .journal .now) (line-there (c .pre) refl .1) .0) in
+    let its = c .line-of-line .ensures _ (no-line (c .args .start)) (line-there (c .pre) refl .1) in
     for-reader _ _ (c .args .message) _ _ its _ (c .in-Reader .is) _
     (getD-read _ _ _ (reader-there (c .pre) refl _ (c .in-Reader .is)) (c .index-readers-r .is) (new-reader (c .args .start)))
     (c .to-reader .ensures)
 
 pub returns-in-Replica : need.returns-in-Replica
 returns-in-Replica g c =
-    let lines = c .args .numbers .now .lines in
-    let its = c .line-of-line .ensures lines (no-line (c .args .start))
-    (within-front _ lines (c .args .journal .now) (line-there (c .pre) refl .1) .0) in
+    let its = c .line-of-line .ensures _ (no-line (c .args .start)) (line-there (c .pre) refl .1) in
     for-replica _ _ (c .args .message) _ _ its _ (c .in-Replica .is) _
     (getD-read _ _ _ (replica-there (c .pre) refl _ (c .in-Replica .is)) (c .index-replicas-c .is)
     (new-replica (c .args .start))) _ (sym (c .pre .readers)) (c .to-replica .ensures)
