@@ -2,6 +2,7 @@ pub mod Fronts
 pub mod Sending
 pub mod Counting
 pub mod Judging
+pub mod Lines
 pub mod Opening
 pub mod Starts
 pub mod Writes
@@ -12,7 +13,6 @@ pub mod SoundRecords
 pub mod Passing
 pub mod WholeTables
 pub mod Histories
-pub mod Comparing
 pub mod Deliverables
 pub mod Reacting
 pub mod Arrivals
