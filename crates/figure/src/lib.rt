@@ -2,6 +2,8 @@
 //!
 //! A figure is a plain `Copy` value whose numbers lie in their ranges by its type. Each kind of figure is read from the
 //! fields of a line of text, which tabs part, and printed into a buffer; `FigureKind` is what both kinds share.
+#![tactic(auto)]
+
 mod examples;
 mod fault;
 mod kind;

@@ -2,6 +2,8 @@
 //!
 //! The code here is data. What each call does, and what is promised of every history of calls, stands in specs/;
 //! `register_serves` has the promise as its contract.
+#![tactic(auto)]
+
 mod answers;
 mod calls;
 mod journal;

@@ -1,5 +1,7 @@
 //! Plays scripts: `play` gives for every input exactly the lines that are defined for it, and the claims stand on the run of
 //! its calls.
+#![tactic(auto)]
+
 mod making;
 mod playing;
 mod printing;

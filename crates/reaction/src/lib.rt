@@ -1,4 +1,6 @@
 //! What a delivered message does, worked out as a value before anything is altered.
+#![tactic(auto)]
+
 mod at_reader;
 mod at_replica;
 mod at_writer;

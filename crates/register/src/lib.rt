@@ -2,6 +2,8 @@
 //!
 //! Every call says in its contract which answer it gives and what every place of the tables holds after it, and carries the
 //! claims over every history that led to it. `Cluster` owns its tables, so that it need not check them.
+#![tactic(auto)]
+
 mod filling;
 mod service;
 mod tally;

@@ -2,6 +2,8 @@
 //!
 //! Every reader is equal to its definition in specs/ for every input, and so is the printer. A fault passes up from
 //! figure to text to script with its cause whole.
+#![tactic(auto)]
+
 mod answer;
 mod calls;
 mod examples;

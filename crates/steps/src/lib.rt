@@ -1,4 +1,6 @@
 //! What each call does on tables that are known to be sound: exactly the model's step, at every place of the tables.
+#![tactic(auto)]
+
 mod applying;
 mod delivering;
 mod halting;

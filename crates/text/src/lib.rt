@@ -1,6 +1,8 @@
 //! Text by lines, fields and numbers: how lines are read from bytes and printed into a buffer.
 //!
 //! It knows nothing of what the lines say.
+#![tactic(auto)]
+
 mod fields;
 mod find;
 mod lines;

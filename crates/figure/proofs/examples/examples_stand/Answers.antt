@@ -7,4 +7,4 @@ use Rattle.figure.proofs.examples.examples_stand.Goals as goal
 
 pub returns : goal.returns
 unfolding digits spelled arm_of verb_of if_within
-returns c = record { tides-read = refl; orders-read = refl }
+returns c = record { tides_read = refl; orders_read = refl }

@@ -8,20 +8,20 @@ use Rattle.figure.proofs.tide.put_tide.Goals as goal
 back : (y z : ℤ) → SFits w32 y → y ≡ z → to_z w32 (of_z w32 y) ≡ z
 back y z fits e = to_z-of_z w32 y fits ∙ e
 
-pub put-signed-at-requires : goal.put-signed-at-requires
-put-signed-at-requires c =
+pub put_signed-at-requires : goal.put_signed-at-requires
+put_signed-at-requires c =
     let room = simp length-append at c.requires in
     let level = back c.mm.result c.args.level.mm (search rules) c.mm.ensures in
     omega (arith, ap (λ z. length (signed_decimal z)) level)
 
-pub put-bytes-at-requires : goal.put-bytes-at-requires
-put-bytes-at-requires c =
+pub put_bytes-at-requires : goal.put_bytes-at-requires
+put_bytes-at-requires c =
     let room = simp length-append at c.requires in
     let level = back c.mm.result c.args.level.mm (search rules) c.mm.ensures in
     omega (arith, ap (λ z. length (signed_decimal z)) level)
 
-pub put-number-requires : goal.put-number-requires
-put-number-requires c =
+pub put_number-requires : goal.put_number-requires
+put_number-requires c =
     let room = simp length-append at c.requires in
     let level = back c.mm.result c.args.level.mm (search rules) c.mm.ensures in
     omega (arith, ap (λ z. length (signed_decimal z)) level, ap (λ n. length (decimal n)) c.get.ensures)
@@ -30,6 +30,6 @@ pub returns : goal.returns
 returns c =
     let room = simp length-append at c.requires in
     let level = back c.mm.result c.args.level.mm (search rules) c.mm.ensures in
-    let one = printed_as (ap signed_decimal level) c.put-signed-at.ensures in
-    let two = then_put (omega arith) one c.put-bytes-at.ensures in
-    then_put (simp length-append (omega arith)) two (printed_as (ap decimal c.get.ensures) c.put-number.ensures)
+    let one = printed_as (ap signed_decimal level) c.put_signed-at.ensures in
+    let two = then_put (omega arith) one c.put_bytes-at.ensures in
+    then_put (simp length-append (omega arith)) two (printed_as (ap decimal c.get.ensures) c.put_number.ensures)

@@ -23,8 +23,8 @@ react-reaction-requires g c =
     deliverable_read _ c.args.start c.args.numbers.now _ c.requires.kept c.requires.fits c.requires.sound c.args.place
     c.if-at-numbers.false c.index-messages-at.result c.index-messages-at.is
 
-pub overflow-add-numbers : goal.overflow-add-numbers
-overflow-add-numbers g c =
+pub overflow_add-numbers : goal.overflow_add-numbers
+overflow_add-numbers g c =
     let few = few_sent c.args.numbers.now.replicas c.requires.kept.some_replica c.react-reaction.result.post in
     omega (arith, few, c.post-count-added.ensures, c.requires.kept.few_replicas, c.requires.kept.room, c.requires.kept.few_messages)
 

@@ -6,12 +6,12 @@ use Rattle.text.proofs.fields.cut.Goals as goal
 
 pub returns-then-end-text : goal.returns-then-end-text
 returns-then-end-text c =
-    one_field c.args.text.now c.find-byte-end.result (omega arith) c.find-byte-end.ensures.before
+    one_field c.args.text.now c.find_byte-end.result (omega arith) c.find_byte-end.ensures.before
 
 pub returns : goal.returns
 returns c =
     let l = c.args.text.now in
-    let n = c.find-byte-end.result in
-    let found = c.find-byte-end.ensures in
+    let n = c.find_byte-end.result in
+    let found = c.find_byte-end.ensures in
     let lt : n < length l = omega arith in
     rw (take_rest l (n + 1), sub-zero, add-one) (first_field l n found.before lt (found.found lt))

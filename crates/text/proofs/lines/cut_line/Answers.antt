@@ -8,12 +8,12 @@ use Rattle.text.proofs.lines.cut_line.Goals as goal
 pub returns-then-end-text : goal.returns-then-end-text
 returns-then-end-text c =
     let l = c.args.text.now in
-    let n = c.find-byte-end.result in
-    rw (take_rest l n, drop_all n l (omega arith)) (one_line l c.requires (λ k lt. c.find-byte-end.ensures.before k (omega arith)))
+    let n = c.find_byte-end.result in
+    rw (take_rest l n, drop_all n l (omega arith)) (one_line l c.requires (λ k lt. c.find_byte-end.ensures.before k (omega arith)))
 
 pub returns : goal.returns
 returns c =
     let l = c.args.text.now in
-    let n = c.find-byte-end.result in
-    let lt : n < length l = omega (arith, c.find-byte-end.ensures.within, c.if-end-text.false) in
-    rw (take_rest l (n + 1), sub-zero, add-one) (first_line l n c.find-byte-end.ensures.before lt (c.find-byte-end.ensures.found lt))
+    let n = c.find_byte-end.result in
+    let lt : n < length l = omega (arith, c.find_byte-end.ensures.within, c.if-end-text.false) in
+    rw (take_rest l (n + 1), sub-zero, add-one) (first_line l n c.find_byte-end.ensures.before lt (c.find_byte-end.ensures.found lt))

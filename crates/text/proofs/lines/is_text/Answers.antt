@@ -9,9 +9,9 @@ pub returns-then-line-gt200 : goal.returns-then-line-gt200
 unfolding is_text
 returns-then-line-gt200 c = search rules
 
-pub returns-then-not-is-plain : goal.returns-then-not-is-plain
+pub returns-then-not-is_plain : goal.returns-then-not-is_plain
 unfolding is_text
-returns-then-not-is-plain c =
+returns-then-not-is_plain c =
     let l = c.args.line.now in
     let i = c.loop-b.b-index in
     let h : length l ≤ 200 = omega arith in

@@ -8,21 +8,21 @@ pub returns-then-field-eq0 : goal.returns-then-field-eq0
 unfolding spelled
 returns-then-field-eq0 c = record { value = search rules; small = tt }
 
-pub returns-in-err-n : goal.returns-in-err-n
-returns-in-err-n c =
+pub returns-in_err-n : goal.returns-in_err-n
+returns-in_err-n c =
     let xs = c.args.field.now in
-    let none = c.in-err-n.ensures.value in
+    let none = c.in_err-n.ensures.value in
     let here = spelled_more c.loop-b.n xs c.loop-b.b-index c.loop-b-test.true None none in
-    rw c.from-residual.ensures (record {
+    rw c.from_residual.ensures (record {
       value = here ∙ c.loop-b.invariant.0 ∙ spelled_is xs (omega arith) (omega arith);
       small = tt;
     })
 
 pub loop-b-preserved : goal.loop-b-preserved
 loop-b-preserved c =
-    let d = c.in-ok-n.field-0 in
+    let d = c.in_ok-n.field-0 in
     let i = c.loop-b.b-index in
-    let told = c.in-ok-n.ensures in
+    let told = c.in_ok-n.ensures in
     let lt = c.loop-b-test.true in (
       spelled_more c.loop-b.n c.args.field.now i lt (Some d) told.value ∙ c.loop-b.invariant.0,
       grows c.loop-b.n d i c.loop-b.invariant.1 told.small,

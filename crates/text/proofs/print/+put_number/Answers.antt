@@ -3,13 +3,13 @@ use Rattle.text.proofs.Placed.{then_put, printed_as}
 use Rattle.text.proofs.Spelling.{decimal_last}
 use Rattle.text.proofs.print.+put_number.Goals as goal
 
-pub put-number-end-requires : goal.put-number-end-requires
-put-number-end-requires t c =
+pub put_number-end-requires : goal.put_number-end-requires
+put_number-end-requires t c =
     let parts = decimal_last c.args.n c.if-n-lt10.false (omega arith) in
     (omega arith, omega (arith, simp length-append at (ap length parts)))
 
-pub put-digit-requires-2 : goal.put-digit-requires-2
-put-digit-requires-2 t c =
+pub put_digit-requires-2 : goal.put_digit-requires-2
+put_digit-requires-2 t c =
     let parts = decimal_last c.args.n c.if-n-lt10.false (omega arith) in
     record { digit = omega arith; room = omega (arith, simp length-append at (ap length parts)) }
 
@@ -17,4 +17,4 @@ pub returns : goal.returns
 returns t c =
     let parts = decimal_last c.args.n c.if-n-lt10.false (omega arith) in
     let room = simp length-append at (ap length parts) in
-    printed_as (sym parts) (then_put (omega (arith, room)) c.put-number-end.ensures c.put-digit-2.ensures)
+    printed_as (sym parts) (then_put (omega (arith, room)) c.put_number-end.ensures c.put_digit-2.ensures)

@@ -8,6 +8,6 @@ returns c =
     let at = c.args.at in
     let bs = c.args.bytes.now in
     let k : (at + length bs) - at ≡ length bs = omega arith in
-    ap (λ y. take at xs ++ (y ++ drop ((at + length bs) - at) (drop at xs))) c.copy-from-slice.ensures.after
+    ap (λ y. take at xs ++ (y ++ drop ((at + length bs) - at) (drop at xs))) c.copy_from_slice.ensures.after
     ∙ ap (λ n. take at xs ++ (bs ++ drop n (drop at xs))) k
     ∙ ap (λ y. take at xs ++ (bs ++ y)) (drop-drop (length bs) at xs)

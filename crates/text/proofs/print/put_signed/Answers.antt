@@ -17,6 +17,6 @@ parts z m fits neg mag =
 
 pub returns-then-z-lt0 : goal.returns-then-z-lt0
 returns-then-z-lt0 c =
-    let size = c.unsigned-abs.ensures.value in
-    let whole = parts c.args.z c.unsigned-abs.result c.ranges.z c.if-z-lt0.true size in
-    printed_as whole (then_put (omega (arith, ap length whole)) c.put-bytes-at.ensures c.put-number.ensures)
+    let size = c.unsigned_abs.ensures.value in
+    let whole = parts c.args.z c.unsigned_abs.result c.ranges.z c.if-z-lt0.true size in
+    printed_as whole (then_put (omega (arith, ap length whole)) c.put_bytes-at.ensures c.put_number.ensures)

@@ -7,11 +7,11 @@ use Rattle.quorum.proofs.by_grid.Grid.has_full_column.Goals as goal
 pub loop-row-init : goal.loop-row-init
 loop-row-init c = full_one c.args.members c.args.self.now.columns
 
-pub overflow-mul-all : goal.overflow-mul-all
-overflow-mul-all c = omega (arith, place_low c.args.self.now.rows c.args.self.now.columns c.loop-row.row c.args.self.now.ok c.loop-row-test.true)
+pub overflow_mul-all : goal.overflow_mul-all
+overflow_mul-all c = omega (arith, place_low c.args.self.now.rows c.args.self.now.columns c.loop-row.row c.args.self.now.ok c.loop-row-test.true)
 
-pub overflow-shr-all : goal.overflow-shr-all
-overflow-shr-all c = omega (arith, place_low c.args.self.now.rows c.args.self.now.columns c.loop-row.row c.args.self.now.ok c.loop-row-test.true)
+pub overflow_shr-all : goal.overflow_shr-all
+overflow_shr-all c = omega (arith, place_low c.args.self.now.rows c.args.self.now.columns c.loop-row.row c.args.self.now.ok c.loop-row-test.true)
 
 pub loop-row-preserved : goal.loop-row-preserved
 loop-row-preserved c = full_more c.loop-row.all c.args.members c.args.self.now.columns c.loop-row.row c.loop-row.invariant

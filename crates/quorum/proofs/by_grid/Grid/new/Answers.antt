@@ -6,5 +6,5 @@ use Rattle.quorum.proofs.by_grid.Grid.new.Goals as goal
 pub returns : goal.returns
 returns c = record {
   declines = search rules;
-  makes = (refl, refl, grid_lawful c.args.rows c.args.columns (limits c.args.rows c.args.columns (sym c.product-fits.ensures ∙ c.if-not-product-fits.false)));
+  makes = (refl, refl, grid_lawful c.args.rows c.args.columns (limits c.args.rows c.args.columns (sym c.product_fits.ensures ∙ c.if-not-product_fits.false)));
 }

@@ -7,11 +7,11 @@ use Rattle.quorum.proofs.by_grid.Grid.touches_columns.Goals as goal
 pub loop-row-init : goal.loop-row-init
 loop-row-init c = touched_none c.args.members c.args.self.now.columns
 
-pub overflow-mul-any : goal.overflow-mul-any
-overflow-mul-any c = omega (arith, place_low c.args.self.now.rows c.args.self.now.columns c.loop-row.row c.args.self.now.ok c.loop-row-test.true)
+pub overflow_mul-any : goal.overflow_mul-any
+overflow_mul-any c = omega (arith, place_low c.args.self.now.rows c.args.self.now.columns c.loop-row.row c.args.self.now.ok c.loop-row-test.true)
 
-pub overflow-shr-any : goal.overflow-shr-any
-overflow-shr-any c = omega (arith, place_low c.args.self.now.rows c.args.self.now.columns c.loop-row.row c.args.self.now.ok c.loop-row-test.true)
+pub overflow_shr-any : goal.overflow_shr-any
+overflow_shr-any c = omega (arith, place_low c.args.self.now.rows c.args.self.now.columns c.loop-row.row c.args.self.now.ok c.loop-row-test.true)
 
 pub loop-row-preserved : goal.loop-row-preserved
 loop-row-preserved c = touched_more c.loop-row.any c.args.members c.args.self.now.columns c.loop-row.row c.loop-row.invariant

@@ -11,11 +11,11 @@ use Rattle.quorum.proofs.by_groups.Groups.passing.Goals.{then-ask, else-ask}
 pub loop-g-init : goal.loop-g-init
 loop-g-init g c = gathered_none _
 
-pub overflow-mul-part : goal.overflow-mul-part
-overflow-mul-part g c = omega (arith, place_low c.args.self.now.groups c.args.self.now.places c.loop-g.g c.args.self.now.ok c.loop-g-test.true)
+pub overflow_mul-part : goal.overflow_mul-part
+overflow_mul-part g c = omega (arith, place_low c.args.self.now.groups c.args.self.now.places c.loop-g.g c.args.self.now.ok c.loop-g-test.true)
 
-pub overflow-shr-part : goal.overflow-shr-part
-overflow-shr-part g c = omega (arith, place_low c.args.self.now.groups c.args.self.now.places c.loop-g.g c.args.self.now.ok c.loop-g-test.true)
+pub overflow_shr-part : goal.overflow_shr-part
+overflow_shr-part g c = omega (arith, place_low c.args.self.now.groups c.args.self.now.places c.loop-g.g c.args.self.now.ok c.loop-g-test.true)
 
 pub below-requires : goal.below-requires
 below-requires g c = omega (arith, few_places c.args.self.now.groups c.args.self.now.places c.args.self.now.ok)
