@@ -25,6 +25,11 @@ def files():
                 yield os.path.join(folder, name)
 
 
+def answers(path):
+    """Whether a file answers the goals of one function, under names that the compiler makes."""
+    return "/proofs/" in path and os.path.basename(path) in GENERATED
+
+
 def parts(path, text):
     """The text in pieces: (piece, whether names in it are turned)."""
     quote = r'"(?:[^"\\\n]|\\.)*"'
@@ -72,7 +77,7 @@ def main():
         if path.endswith(".rt"):
             continue
         plain = code(path, text)
-        if os.path.basename(path) not in GENERATED:
+        if not answers(path):
             words |= {t for t in TOKEN.findall(plain) if "-" in t}
         else:
             goals = set(re.findall(r"\bgoal\.(" + NAME + ")", plain))
@@ -81,7 +86,7 @@ def main():
     for path, text in texts.items():
         turn = {w: spelled(w) for w in words | locals_of.get(path, set())}
         plain = code(path, text)
-        keep = set(re.findall(r"\bgoal\.(" + NAME + ")", plain)) if os.path.basename(path) in GENERATED else set()
+        keep = set(re.findall(r"\bgoal\.(" + NAME + ")", plain)) if answers(path) else set()
         aliases = {}
         for module, names in USE.findall(plain):
             for name in names.split(","):
@@ -98,7 +103,7 @@ def main():
                 return name
             if name in keep and (before.endswith("goal.") or re.search(r"(^|\n)(pub )?$", before)):
                 return name
-            if path.endswith(".antt") and os.path.basename(path) in GENERATED and re.search(r"(?<![\w.'-])[cglw]\.$", before):
+            if answers(path) and re.search(r"(?<![\w.'-])[cglw]\.$", before):
                 return name
             return turn[name]
 

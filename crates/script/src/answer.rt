@@ -1,8 +1,8 @@
 ghost use Rattle.std.specs.Prelude.{◌≡◌, ◌+◌, ◌≤◌, length, IfOk};
 ghost use Rattle.text.specs.Printing.{Printed};
 ghost use Rattle.script.specs.Faults.{report};
-ghost use Rattle.script.specs.Answers.{answer_of, tabbed, accepted-shown, finished-shown, declined_shown};
-ghost use Rattle.script.specs.Answers.{answer-shown, line_shown, LinePrinted};
+ghost use Rattle.script.specs.Answers.{answer_of, tabbed, accepted_shown, finished_shown, declined_shown};
+ghost use Rattle.script.specs.Answers.{answer_shown, line_shown, LinePrinted};
 
 use crate::fault::ScriptFault;
 use figure::FigureKind;
@@ -74,7 +74,7 @@ pub fn print_answer<F: FigureKind>(
 fn put_answer<F: FigureKind>(buffer: &mut [u8], at: usize, answer: Answer<F>) -> usize
     requires { at + 66 ≤ length buffer.old }
     ensures short { result ≤ at + 66 }
-    ensures all { Printed buffer.old at (answer-shown F.FigureKind.shown answer)
+    ensures all { Printed buffer.old at (answer_shown F.FigureKind.shown answer)
         buffer.new result }
 {
     match answer {
@@ -93,7 +93,7 @@ fn put_answer<F: FigureKind>(buffer: &mut [u8], at: usize, answer: Answer<F>) ->
 fn put_accepted(buffer: &mut [u8], at: usize, operation: u16) -> usize
     requires { at + 66 ≤ length buffer.old }
     ensures short { result ≤ at + 66 }
-    ensures all { Printed buffer.old at (accepted-shown operation) buffer.new result }
+    ensures all { Printed buffer.old at (accepted_shown operation) buffer.new result }
 {
     let at = put_bytes(buffer, at, b"ok");
     put_tabbed(buffer, at, operation as u32)
@@ -111,7 +111,7 @@ fn put_finished<F: FigureKind>(
     requires { at + 66 ≤ length buffer.old }
     ensures short { result ≤ at + 66 }
     ensures all { Printed buffer.old at
-        (finished-shown operation stamp (F.FigureKind.shown figure) sent exchanges) buffer.new result }
+        (finished_shown operation stamp (F.FigureKind.shown figure) sent exchanges) buffer.new result }
 {
     let at = put_bytes(buffer, at, b"done");
     let at = put_tabbed(buffer, at, operation as u32);

@@ -7,34 +7,34 @@ use Rattle.reaction.proofs.Deliverables.{sender_small, replica_there, reader_the
 use Rattle.reaction.proofs.Deliverables.{within_front, for_writer, for_reader, for_replica}
 use Rattle.reaction.proofs.receiving.react.Goals as goal
 
-pub line-of-line-requires : goal.line-of-line-requires
-line-of-line-requires g c =
+pub line_of-line-requires : goal.line_of-line-requires
+line_of-line-requires g c =
     let h = line_there c.requires refl in
     (h.0, (within_front _ c.args.numbers.now.lines c.args.journal.now h.1).1)
 
-pub to-writer-requires : goal.to-writer-requires
-to-writer-requires g c = sender_small c.requires refl
+pub to_writer-requires : goal.to_writer-requires
+to_writer-requires g c = sender_small c.requires refl
 
-pub to-reader-requires : goal.to-reader-requires
-to-reader-requires g c = sender_small c.requires refl
+pub to_reader-requires : goal.to_reader-requires
+to_reader-requires g c = sender_small c.requires refl
 
-pub offset-bounds-readers-r : goal.offset-bounds-readers-r
-offset-bounds-readers-r g c = let h = reader_there c.requires refl _ c.in-Reader.is in omega (arith, h)
+pub offset_bounds-readers-r : goal.offset_bounds-readers-r
+offset_bounds-readers-r g c = let h = reader_there c.requires refl _ c.in-Reader.is in omega (arith, h)
 
 pub bounds-readers-r : goal.bounds-readers-r
 bounds-readers-r g c = reader_there c.requires refl _ c.in-Reader.is
 
-pub offset-bounds-replicas-c : goal.offset-bounds-replicas-c
-offset-bounds-replicas-c g c = let h = replica_there c.requires refl _ c.in-Replica.is in omega (arith, h)
+pub offset_bounds-replicas-c : goal.offset_bounds-replicas-c
+offset_bounds-replicas-c g c = let h = replica_there c.requires refl _ c.in-Replica.is in omega (arith, h)
 
 pub bounds-replicas-c : goal.bounds-replicas-c
 bounds-replicas-c g c = replica_there c.requires refl _ c.in-Replica.is
 
 -- The line that was read is the operation's line, in the part of the journal that is in use.
 
-pub to-replica-requires : goal.to-replica-requires
-to-replica-requires g c =
-    let its = c.line-of-line.ensures _ (no_line c.args.start) (line_there c.requires refl).1 in
+pub to_replica-requires : goal.to_replica-requires
+to_replica-requires g c =
+    let its = c.line_of-line.ensures _ (no_line c.args.start) (line_there c.requires refl).1 in
     record {
       sender = sender_small c.requires refl;
       place = subst (λ o. c.in-Replica.c * c.args.numbers.now.readers + index o.owner < length c.args.marks.now)
@@ -44,19 +44,19 @@ to-replica-requires g c =
 
 pub returns-in-Writer : goal.returns-in-Writer
 returns-in-Writer g c =
-    let its = c.line-of-line.ensures _ (no_line c.args.start) (line_there c.requires refl).1 in
-    for_writer _ _ c.args.message _ _ its c.in-Writer.is c.to-writer.ensures
+    let its = c.line_of-line.ensures _ (no_line c.args.start) (line_there c.requires refl).1 in
+    for_writer _ _ c.args.message _ _ its c.in-Writer.is c.to_writer.ensures
 
 pub returns-in-Reader : goal.returns-in-Reader
 returns-in-Reader g c =
-    let its = c.line-of-line.ensures _ (no_line c.args.start) (line_there c.requires refl).1 in
+    let its = c.line_of-line.ensures _ (no_line c.args.start) (line_there c.requires refl).1 in
     for_reader _ _ c.args.message _ _ its _ c.in-Reader.is _
     (get_or_read _ _ _ (reader_there c.requires refl _ c.in-Reader.is) c.index-readers-r.is (new_reader c.args.start))
-    c.to-reader.ensures
+    c.to_reader.ensures
 
 pub returns-in-Replica : goal.returns-in-Replica
 returns-in-Replica g c =
-    let its = c.line-of-line.ensures _ (no_line c.args.start) (line_there c.requires refl).1 in
+    let its = c.line_of-line.ensures _ (no_line c.args.start) (line_there c.requires refl).1 in
     for_replica _ _ c.args.message _ _ its _ c.in-Replica.is _
     (get_or_read _ _ _ (replica_there c.requires refl _ c.in-Replica.is) c.index-replicas-c.is
-    (new_replica c.args.start)) _ (sym c.requires.readers) c.to-replica.ensures
+    (new_replica c.args.start)) _ (sym c.requires.readers) c.to_replica.ensures

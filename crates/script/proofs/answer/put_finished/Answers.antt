@@ -3,18 +3,18 @@ use Rattle.text.proofs.Placed.{then_put}
 use Rattle.script.proofs.Sized.{FinishedSizes, finished_sizes}
 use Rattle.script.proofs.answer.put_finished.Goals as goal
 
-pub put-tabbed-at-requires : goal.put-tabbed-at-requires
-put-tabbed-at-requires g c =
+pub put_tabbed-at-requires : goal.put_tabbed-at-requires
+put_tabbed-at-requires g c =
     let h = finished_sizes c.args.operation c.args.stamp c.args.sent c.args.exchanges (omega arith) (omega arith) (omega arith) (omega arith) in
     omega arith
 
-pub put-tabbed-at-requires-2 : goal.put-tabbed-at-requires-2
-put-tabbed-at-requires-2 g c =
+pub put_tabbed-at-requires-2 : goal.put_tabbed-at-requires-2
+put_tabbed-at-requires-2 g c =
     let h = finished_sizes c.args.operation c.args.stamp c.args.sent c.args.exchanges (omega arith) (omega arith) (omega arith) (omega arith) in
     omega arith
 
-pub put-bytes-at-requires-2 : goal.put-bytes-at-requires-2
-put-bytes-at-requires-2 g c =
+pub put_bytes-at-requires-2 : goal.put_bytes-at-requires-2
+put_bytes-at-requires-2 g c =
     let h = finished_sizes c.args.operation c.args.stamp c.args.sent c.args.exchanges (omega arith) (omega arith) (omega arith) (omega arith) in
     omega arith
 
@@ -24,14 +24,14 @@ print-at-requires g c =
     let short = g.met.F.FigureKind.short c.args.figure in
     omega arith
 
-pub put-tabbed-at-requires-3 : goal.put-tabbed-at-requires-3
-put-tabbed-at-requires-3 g c =
+pub put_tabbed-at-requires-3 : goal.put_tabbed-at-requires-3
+put_tabbed-at-requires-3 g c =
     let h = finished_sizes c.args.operation c.args.stamp c.args.sent c.args.exchanges (omega arith) (omega arith) (omega arith) (omega arith) in
     let short = g.met.F.FigureKind.short c.args.figure in
     omega arith
 
-pub put-tabbed-requires : goal.put-tabbed-requires
-put-tabbed-requires g c =
+pub put_tabbed-requires : goal.put_tabbed-requires
+put_tabbed-requires g c =
     let h = finished_sizes c.args.operation c.args.stamp c.args.sent c.args.exchanges (omega arith) (omega arith) (omega arith) (omega arith) in
     let short = g.met.F.FigureKind.short c.args.figure in
     omega arith
@@ -40,10 +40,10 @@ pub returns : goal.returns
 returns g c =
     let h = finished_sizes c.args.operation c.args.stamp c.args.sent c.args.exchanges (omega arith) (omega arith) (omega arith) (omega arith) in
     let short = g.met.F.FigureKind.short c.args.figure in
-    let p1 = then_put (omega arith) c.put-bytes-at.ensures c.put-tabbed-at.ensures in
-    let p2 = then_put (simp length-append (omega arith)) p1 c.put-tabbed-at-2.ensures in
-    let p3 = then_put (simp length-append (omega arith)) p2 c.put-bytes-at-2.ensures in
+    let p1 = then_put (omega arith) c.put_bytes-at.ensures c.put_tabbed-at.ensures in
+    let p2 = then_put (simp length-append (omega arith)) p1 c.put_tabbed-at-2.ensures in
+    let p3 = then_put (simp length-append (omega arith)) p2 c.put_bytes-at-2.ensures in
     let p4 = then_put (simp length-append (omega arith)) p3 c.print-at.ensures in
-    let p5 = then_put (simp length-append (omega arith)) p4 c.put-tabbed-at-3.ensures in
-    let p6 = then_put (simp length-append (omega arith)) p5 c.put-tabbed.ensures in
+    let p5 = then_put (simp length-append (omega arith)) p4 c.put_tabbed-at-3.ensures in
+    let p6 = then_put (simp length-append (omega arith)) p5 c.put_tabbed.ensures in
     record { short = rw p6.stop (simp length-append (omega arith)); all = p6 }

@@ -13,21 +13,21 @@ returns c =
     let fs = fields line in
     let k = c.in-Some.rule in
     let p0 = c.over-fields.ensures in
-    let p1 : ahead c.next-field-plant.new.self ≡ drop 1 fs = c.next-field-plant.ensures.rest ∙ ap (drop 1) p0 in
-    let p2 : ahead c.next-field-kind.new.self ≡ drop 2 fs = c.next-field-kind.ensures.rest ∙ ap (drop 1) p1 ∙ drop-drop 1 1 fs in
-    let p3 : ahead c.next-field-readers.new.self ≡ drop 3 fs = c.next-field-readers.ensures.rest ∙ ap (drop 1) p2 ∙ drop-drop 1 2 fs in
-    let p4 : ahead c.next-field-word.new.self ≡ drop 4 fs = c.next-field-word.ensures.rest ∙ ap (drop 1) p3 ∙ drop-drop 1 3 fs in
-    let w0 : c.next-field-plant.result.now ≡ field_at fs 0 = c.next-field-plant.ensures.field ∙ ap (λ x. field_at x 0) p0 in
-    let w1 : c.next-field-kind.result.now ≡ field_at fs 1 = c.next-field-kind.ensures.field ∙ ap (λ x. field_at x 0) p1 ∙ get_or-drop 1 fs 0 [] in
-    let w2 : c.next-field-readers.result.now ≡ field_at fs 2 = c.next-field-readers.ensures.field ∙ ap (λ x. field_at x 0) p2 ∙ get_or-drop 2 fs 0 [] in
-    let w3 : c.next-field-word.result.now ≡ field_at fs 3 = c.next-field-word.ensures.field ∙ ap (λ x. field_at x 0) p3 ∙ get_or-drop 3 fs 0 [] in
+    let p1 : ahead c.next_field-plant.new.self ≡ drop 1 fs = c.next_field-plant.ensures.rest ∙ ap (drop 1) p0 in
+    let p2 : ahead c.next_field-kind.new.self ≡ drop 2 fs = c.next_field-kind.ensures.rest ∙ ap (drop 1) p1 ∙ drop-drop 1 1 fs in
+    let p3 : ahead c.next_field-readers.new.self ≡ drop 3 fs = c.next_field-readers.ensures.rest ∙ ap (drop 1) p2 ∙ drop-drop 1 2 fs in
+    let p4 : ahead c.next_field-word.new.self ≡ drop 4 fs = c.next_field-word.ensures.rest ∙ ap (drop 1) p3 ∙ drop-drop 1 3 fs in
+    let w0 : c.next_field-plant.result.now ≡ field_at fs 0 = c.next_field-plant.ensures.field ∙ ap (λ x. field_at x 0) p0 in
+    let w1 : c.next_field-kind.result.now ≡ field_at fs 1 = c.next_field-kind.ensures.field ∙ ap (λ x. field_at x 0) p1 ∙ get_or-drop 1 fs 0 [] in
+    let w2 : c.next_field-readers.result.now ≡ field_at fs 2 = c.next_field-readers.ensures.field ∙ ap (λ x. field_at x 0) p2 ∙ get_or-drop 2 fs 0 [] in
+    let w3 : c.next_field-word.result.now ≡ field_at fs 3 = c.next_field-word.ensures.field ∙ ap (λ x. field_at x 0) p3 ∙ get_or-drop 3 fs 0 [] in
     let n : c.count-count.result ≡ length fs = c.count-count.ensures ∙ ap length p0 in
-    c.header-rest.ensures
-    ∙ ap (λ x. header_rest x c.next-field-readers.result.now k (ahead c.next-field-word.new.self)) w1
-    ∙ ap (λ x. header_rest (field_at fs 1) x k (ahead c.next-field-word.new.self)) w2
+    c.header_rest.ensures
+    ∙ ap (λ x. header_rest x c.next_field-readers.result.now k (ahead c.next_field-word.new.self)) w1
+    ∙ ap (λ x. header_rest (field_at fs 1) x k (ahead c.next_field-word.new.self)) w2
     ∙ ap (λ x. header_rest (field_at fs 1) (field_at fs 2) k x) p4
-    ∙ header_goes line k (sym c.if-not-is-text.ensures)
-    (sym (c.if-not-is-word.ensures ∙ ap (λ x. bytes_eq x (codes "plant")) w0))
+    ∙ header_goes line k (sym c.if-not-is_text.ensures)
+    (sym (c.if-not-is_word.ensures ∙ ap (λ x. bytes_eq x (codes "plant")) w0))
     (omega (arith, n))
     (sym (c.in-Some.ensures ∙ ap rule_word w3))
-    (sym n ∙ c.if-count-rule-numbers.false ∙ ap (λ x. 4 + x) c.rule-numbers.ensures)
+    (sym n ∙ c.if-count-rule_numbers.false ∙ ap (λ x. 4 + x) c.rule_numbers.ensures)

@@ -14,14 +14,14 @@ loop-mark-preserved c =
     passed (λ k. mark_within (of_size c.args.size)) c.args.marks.now c.loop-mark.mark-index _
     (get_or c.args.marks.now c.loop-mark.mark-index new_mark) c.loop-mark-test.true
     (get_or_default c.args.marks.now c.loop-mark.mark-index new_mark _ c.loop-mark-test.true)
-    c.if-not-mark-within.ensures c.loop-mark.invariant
+    c.if-not-mark_within.ensures c.loop-mark.invariant
 
-pub returns-then-not-mark-within : goal.returns-then-not-mark-within
-returns-then-not-mark-within c =
+pub returns-then-not-mark_within : goal.returns-then-not-mark_within
+returns-then-not-mark_within c =
     failed (λ k. mark_within (of_size c.args.size)) c.args.marks.now c.loop-mark.mark-index _
     (get_or c.args.marks.now c.loop-mark.mark-index new_mark) c.loop-mark-test.true
     (get_or_default c.args.marks.now c.loop-mark.mark-index new_mark _ c.loop-mark-test.true)
-    c.if-not-mark-within.ensures c.loop-mark.invariant
+    c.if-not-mark_within.ensures c.loop-mark.invariant
 
 pub returns : goal.returns
 returns c =

@@ -11,13 +11,13 @@ pub loop-message-preserved : goal.loop-message-preserved
 loop-message-preserved g c = λ start.
     passed (λ k. message_sound (of_size c.args.size) (judged start c.args.readers.now c.args.lines.now))
     c.args.waiting.now c.loop-message.message-index _ c.message-item.result c.loop-message-test.true
-    c.message-item.is (c.if-not-message-sound.ensures start) (c.loop-message.invariant start)
+    c.message-item.is (c.if-not-message_sound.ensures start) (c.loop-message.invariant start)
 
-pub returns-then-not-message-sound : goal.returns-then-not-message-sound
-returns-then-not-message-sound g c = λ start.
+pub returns-then-not-message_sound : goal.returns-then-not-message_sound
+returns-then-not-message_sound g c = λ start.
     failed (λ k. message_sound (of_size c.args.size) (judged start c.args.readers.now c.args.lines.now))
     c.args.waiting.now c.loop-message.message-index _ c.message-item.result c.loop-message-test.true
-    c.message-item.is (c.if-not-message-sound.ensures start) (c.loop-message.invariant start)
+    c.message-item.is (c.if-not-message_sound.ensures start) (c.loop-message.invariant start)
 
 pub returns : goal.returns
 returns g c = λ start.

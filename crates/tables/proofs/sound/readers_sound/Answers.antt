@@ -6,14 +6,14 @@ pub loop-number-preserved : goal.loop-number-preserved
 loop-number-preserved g c = λ start.
     passed (reader_sound (of_size c.args.size) (judged start c.args.readers.now c.args.lines.now))
     c.args.readers.now c.loop-number.number _ c.index-readers-number.result c.loop-number-test.true
-    c.index-readers-number.is (c.if-not-reader-sound.ensures start c.args.readers.now)
+    c.index-readers-number.is (c.if-not-reader_sound.ensures start c.args.readers.now)
     (c.loop-number.invariant start)
 
-pub returns-then-not-reader-sound : goal.returns-then-not-reader-sound
-returns-then-not-reader-sound g c = λ start.
+pub returns-then-not-reader_sound : goal.returns-then-not-reader_sound
+returns-then-not-reader_sound g c = λ start.
     failed (reader_sound (of_size c.args.size) (judged start c.args.readers.now c.args.lines.now))
     c.args.readers.now c.loop-number.number _ c.index-readers-number.result c.loop-number-test.true
-    c.index-readers-number.is (c.if-not-reader-sound.ensures start c.args.readers.now)
+    c.index-readers-number.is (c.if-not-reader_sound.ensures start c.args.readers.now)
     (c.loop-number.invariant start)
 
 pub returns : goal.returns

@@ -6,8 +6,8 @@ use Rattle.tables.proofs.sound.records.message_sound.Goals as goal
 pub returns-then-suits : goal.returns-then-suits
 returns-then-suits g c = λ start.
     message_judged (of_size c.args.size) (judged start c.args.readers.now c.args.lines.now)
-    c.args.message.now true c.line-recorded.result (c.if-suits.ensures start c.args.lines.now)
-    (c.line-recorded.ensures start)
+    c.args.message.now true c.line_recorded.result (c.if-suits.ensures start c.args.lines.now)
+    (c.line_recorded.ensures start)
 
 pub returns-else-suits : goal.returns-else-suits
 returns-else-suits g c = λ start.

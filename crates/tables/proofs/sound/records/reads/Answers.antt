@@ -6,7 +6,7 @@ use Rattle.tables.proofs.sound.records.reads.Goals as goal
 pub returns-in-Some : goal.returns-in-Some
 returns-in-Some g c = λ start readers.
     line_found (judged start readers c.args.lines.now) c.args.operation (own_read c.args.number)
-    c.in-Some.line.now c.own-read.result (c.in-Some.ensures start readers) c.own-read.ensures
+    c.in-Some.line.now c.own_read.result (c.in-Some.ensures start readers) c.own_read.ensures
 
 pub returns-in-None : goal.returns-in-None
 returns-in-None g c = λ start readers.
