@@ -49,7 +49,7 @@ fn lowers<F: Copy>(reader: &Reader<F>, message: &Message<F>) -> bool
 
 /// What a reader of a read of this kind does after a message that counted.
 pub fn next_move<R: QuorumSystem, F: Copy>(rule: &R, kind: ReadKind, reader: &Reader<F>) -> Move
-    ensures { result ≡ next_move (round rule.now) (hold rule.now) kind reader.now }
+    ensures { result ≡ next_move (R.QuorumSystem.round rule.now) (R.QuorumSystem.hold rule.now) kind reader.now }
 {
     match (kind, reader.phase) {
         (ReadKind::Quick, Phase::First)
@@ -103,7 +103,7 @@ pub fn to_reader<R: QuorumSystem, F: Copy>(
     message: &Message<F>,
 ) -> Reaction<F>
     requires { index_of message.now.sender < 32 }
-    ensures { result ≡ to_reader (round rule.now) (hold rule.now) place reader kind message.now }
+    ensures { result ≡ to_reader (R.QuorumSystem.round rule.now) (R.QuorumSystem.hold rule.now) place reader kind message.now }
 {
     let mut reader = reader;
     if reader.halted || !hear(&mut reader, message, index(message.sender)) {

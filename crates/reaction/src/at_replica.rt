@@ -54,7 +54,7 @@ pub fn to_mark<R: QuorumSystem, F: Copy>(
     message: &Message<F>,
 ) -> Reaction<F>
     requires { index_of message.now.sender < 32 }
-    ensures { result ≡ to_mark (round rule.now) c replica owner message.now place mark }
+    ensures { result ≡ to_mark (R.QuorumSystem.round rule.now) c replica owner message.now place mark }
 {
     let mut mark = mark;
     if !relayed(&mut mark, message.operation, index(message.sender)) {
@@ -88,7 +88,7 @@ pub fn to_replica<R: QuorumSystem, F: Copy>(
     requires sender { index_of message.now.sender < 32 }
     requires place { c * width + index_of owner < length marks.now }
     requires few { length marks.now ≤ 768 }
-    ensures { result ≡ to_replica (round rule.now) start c replica owner width marks.now message.now }
+    ensures { result ≡ to_replica (R.QuorumSystem.round rule.now) start c replica owner width marks.now message.now }
 {
     if replica.halted {
         return Reaction::nothing();

@@ -28,7 +28,7 @@ pub fn to_writer<R: QuorumSystem, F: Copy>(
     message: &Message<F>,
 ) -> Reaction<F>
     requires { index_of message.now.sender < 32 }
-    ensures { result ≡ to_writer (round rule.now) writer line.now message.now }
+    ensures { result ≡ to_writer (R.QuorumSystem.round rule.now) writer line.now message.now }
 {
     let mut writer = writer;
     if writer.halted || !acknowledge(&mut writer, message.operation, index(message.sender)) {
