@@ -8,4 +8,4 @@ pub returns : goal.returns
 returns g c = λ d.
     let row = c.index-journal-at.result in
     let found = get_or_read c.args.journal.now c.args.at row c.requires c.index-journal-at.is d in
-    rw c.saturating-add.ensures (ap (λ (o : Operation _). set c.args.journal.now c.args.at (sent_more o c.args.more)) found)
+    rw c.saturating_add.ensures (ap (λ (o : Operation _). set c.args.journal.now c.args.at (sent_more o c.args.more)) found)

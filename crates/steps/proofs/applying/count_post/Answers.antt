@@ -16,7 +16,7 @@ pub returns-in-One : goal.returns-in-One
 returns-in-One g c = λ start.
     let j = c.args.journal.now in
     rw c.in-One.is
-    (c.count-sent.ensures start ∙ ap (λ (l : List _). stored l j) (counts_one start (take c.args.lines j) c.in-One.message))
+    (c.count_sent.ensures start ∙ ap (λ (l : List _). stored l j) (counts_one start (take c.args.lines j) c.in-One.message))
 
 pub returns-in-All : goal.returns-in-All
 returns-in-All g c = λ start.
@@ -26,7 +26,7 @@ returns-in-All g c = λ start.
     let within : HasLine c.args.lines c.in-All.operation = rw c.in-All.is at c.requires.within in
     let there : HasLine (length front) c.in-All.operation = (within.0, omega (arith, within.1, long)) in
     rw c.in-All.is
-    (c.count-sent-in-All.ensures start
+    (c.count_sent-in-All.ensures start
     ∙ ap (λ (l : List _). stored l j)
     (counts_all start front c.args.size c.requires.some c.in-All.kind c.in-All.operation c.in-All.sender
     (record { stamp = c.in-All.stamp; figure = c.in-All.figure }) there))

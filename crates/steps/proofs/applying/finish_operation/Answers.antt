@@ -5,25 +5,25 @@ use Rattle.reaction.specs.Applied.{HasLine}
 use Rattle.steps.proofs.Parts.{ends_none, ends_some}
 use Rattle.steps.proofs.applying.finish_operation.Goals as goal
 
-pub returns-in-default : goal.returns-in-default
-returns-in-default g c = rw c.in-default.is (record {
+pub returns-in_default : goal.returns-in_default
+returns-in_default g c = rw c.in_default.is (record {
   numbers = refl;
   ends = λ start rs ds ks ms fm.
-      ends_none start c.args.numbers.now (tables rs ds ks ms c.args.journal.now) c.requires.kept fm c.requires.journal-fits;
+      ends_none start c.args.numbers.now (tables rs ds ks ms c.args.journal.now) c.requires.kept fm c.requires.journal_fits;
 })
 
-pub end-line-sent-requires : goal.end-line-sent-requires
-end-line-sent-requires g c =
+pub end_line-sent-requires : goal.end_line-sent-requires
+end_line-sent-requires g c =
     let there : HasLine c.args.numbers.now.lines c.in-Some.finish.operation = rw c.in-Some.is at c.requires.within in
-    omega (arith, there.0, there.1, c.requires.kept.lines_fit, c.requires.journal-fits)
+    omega (arith, there.0, there.1, c.requires.kept.lines_fit, c.requires.journal_fits)
 
 pub returns : goal.returns
 returns g c =
     let there : HasLine c.args.numbers.now.lines c.in-Some.finish.operation = rw c.in-Some.is at c.requires.within in
     rw c.in-Some.is (record {
-      numbers = rw c.saturating-add-numbers.ensures;
+      numbers = rw c.saturating_add-numbers.ensures;
       ends = λ start rs ds ks ms fm.
-          rw (c.end-line-sent.ensures.sent (no_line start), c.end-line-sent.ensures.ended (no_line start), c.saturating-add-numbers.ensures)
-          (ends_some start c.args.numbers.now (tables rs ds ks ms c.args.journal.now) c.requires.kept fm c.requires.journal-fits
+          rw (c.end_line-sent.ensures.sent (no_line start), c.end_line-sent.ensures.ended (no_line start), c.saturating_add-numbers.ensures)
+          (ends_some start c.args.numbers.now (tables rs ds ks ms c.args.journal.now) c.requires.kept fm c.requires.journal_fits
           c.in-Some.finish there);
     })

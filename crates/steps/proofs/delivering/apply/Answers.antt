@@ -8,12 +8,12 @@ use Rattle.steps.specs.Applying.{numbers_ended}
 use Rattle.steps.proofs.Parts.{kept_writer, ended_kept, ended_same, applies}
 use Rattle.steps.proofs.delivering.apply.Goals as goal
 
-pub finish-operation-reply-requires : goal.finish-operation-reply-requires
-finish-operation-reply-requires g c = record {
+pub finish_operation-reply-requires : goal.finish_operation-reply-requires
+finish_operation-reply-requires g c = record {
   kept =
-      rw c.changed-writer-numbers.ensures
+      rw c.changed_writer-numbers.ensures
       (kept_writer c.args.numbers.now c.requires.kept c.args.reaction.writer c.requires.applicable.writer);
-  journal-fits = c.requires.journal-fits;
+  journal_fits = c.requires.journal_fits;
   within = c.requires.applicable.finish;
 }
 
@@ -22,16 +22,16 @@ post-requires g c =
     let n = c.args.numbers.now in
     let r = c.args.reaction in
     let n₁ : Numbers = with_writer n (writer_changed n.writer r.writer) in
-    let m : Numbers = c.finish-operation-reply.new.numbers in
+    let m : Numbers = c.finish_operation-reply.new.numbers in
     let e : m ≡ numbers_ended n₁ r.finish
-    = c.finish-operation-reply.ensures.numbers
-    ∙ ap (λ w. numbers_ended (with_writer n w) r.finish) c.changed-writer-numbers.ensures in
+    = c.finish_operation-reply.ensures.numbers
+    ∙ ap (λ w. numbers_ended (with_writer n w) r.finish) c.changed_writer-numbers.ensures in
     let same : SameSizes n₁ m × (m.waiting ≡ n.waiting) × (m.lines ≡ n.lines)
     = subst (λ (x : Numbers). SameSizes n₁ x × (x.waiting ≡ n.waiting) × (x.lines ≡ n.lines)) (sym e) (ended_same n₁ r.finish) in
     record {
       kept = subst Kept (sym e) (ended_kept n₁ r.finish (kept_writer n c.requires.kept r.writer c.requires.applicable.writer));
-      messages-fit = c.requires.messages-fit ∙ sym same.0.message_room;
-      journal-fits = c.finish-operation-reply.auto.journal ∙ c.requires.journal-fits ∙ sym same.0.journal_room;
+      messages_fit = c.requires.messages_fit ∙ sym same.0.message_room;
+      journal_fits = c.finish_operation-reply.auto.journal ∙ c.requires.journal_fits ∙ sym same.0.journal_room;
       room = let long = ap (λ k. length (sent_by k r.post)) same.0.replicas in omega (arith, long, same.1, same.0.message_room, c.requires.room);
       within = subst (λ k. post_within k r.post) (sym same.2) c.requires.applicable.post;
     }
@@ -44,11 +44,11 @@ returns g c = λ start.
     let rs = changed c.args.replicas.now r.replica in
     let ds = changed c.args.readers.now r.reader in
     let ks = changed c.args.marks.now r.mark in
-    let ended = c.finish-operation-reply.ensures.ends start rs ds ks c.args.messages.now c.requires.messages-fit in
+    let ended = c.finish_operation-reply.ensures.ends start rs ds ks c.args.messages.now c.requires.messages_fit in
     rw (c.change.ensures, c.change-2.ensures, c.change-3.ensures)
-    (applies start n t c.requires.kept c.requires.messages-fit c.requires.journal-fits r c.requires.applicable.writer
-    c.changed-writer-numbers.result c.changed-writer-numbers.ensures
-    c.finish-operation-reply.result c.finish-operation-reply.new.numbers
-    (tables rs ds ks c.args.messages.now c.finish-operation-reply.new.journal) ended
-    c.finish-operation-reply.new.numbers.replicas ended.sizes.replicas c.post.new.numbers _
+    (applies start n t c.requires.kept c.requires.messages_fit c.requires.journal_fits r c.requires.applicable.writer
+    c.changed_writer-numbers.result c.changed_writer-numbers.ensures
+    c.finish_operation-reply.result c.finish_operation-reply.new.numbers
+    (tables rs ds ks c.args.messages.now c.finish_operation-reply.new.journal) ended
+    c.finish_operation-reply.new.numbers.replicas ended.sizes.replicas c.post.new.numbers _
     (c.post.ensures start rs ds ks))

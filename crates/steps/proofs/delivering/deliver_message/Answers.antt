@@ -14,8 +14,8 @@ returns-in-Err g c =
     declines c.args.start _ _ _ c.in-Err.refusal c.requires.kept (omega (arith, c.requires.fits.messages)) (omega (arith, c.requires.fits.journal))
     c.in-Err.ensures
 
-pub remove-at-requires : goal.remove-at-requires
-remove-at-requires g c = (c.in-Ok.ensures.waits, omega (arith, c.requires.kept.room, c.requires.fits.messages))
+pub remove_at-requires : goal.remove_at-requires
+remove_at-requires g c = (c.in-Ok.ensures.waits, omega (arith, c.requires.kept.room, c.requires.fits.messages))
 
 pub apply-requires : goal.apply-requires
 apply-requires g c =
@@ -23,8 +23,8 @@ apply-requires g c =
     let plan = c.in-Ok.ensures in
     record {
       kept = kept_waiting n c.requires.kept (n.waiting - 1) (omega (arith, c.requires.kept.room));
-      messages-fit = c.remove-at.auto.table ∙ c.requires.fits.messages;
-      journal-fits = c.requires.fits.journal;
+      messages_fit = c.remove_at.auto.table ∙ c.requires.fits.messages;
+      journal_fits = c.requires.fits.journal;
       room = plan.room;
       applicable = record { finish = plan.applicable.finish; post = plan.applicable.post; writer = plan.applicable.writer };
     }
@@ -37,4 +37,4 @@ returns-in-Ok g c =
     let out = taken_out c.args.start (rule_for g.R.QuorumSystem c.args.rule.now n.replicas) n _ c.requires.kept c.requires.fits.messages c.requires.fits.journal c.args.place plan.waits in
     deliver_done _ _ n _ c.args.place c.in-Ok.reaction plan (with_waiting n (n.waiting - 1))
     (tables c.args.replicas.now c.args.readers.now c.args.marks.now (stored (without (take n.waiting c.args.messages.now) c.args.place) c.args.messages.now) c.args.journal.now)
-    out.state _ _ _ (rw (sym c.remove-at.ensures) (c.apply.ensures c.args.start)) c.requires.kept c.requires.fits out
+    out.state _ _ _ (rw (sym c.remove_at.ensures) (c.apply.ensures c.args.start)) c.requires.kept c.requires.fits out

@@ -8,8 +8,8 @@ returns-then-at-numbers g c =
     absent _ c.args.start c.args.numbers.now _ c.requires.kept c.requires.fits c.requires.sound c.args.place
     c.if-at-numbers.true
 
-pub offset-bounds-messages-at : goal.offset-bounds-messages-at
-offset-bounds-messages-at g c =
+pub offset_bounds-messages-at : goal.offset_bounds-messages-at
+offset_bounds-messages-at g c =
     let low : c.args.place < length c.args.messages.now = omega (arith, c.if-at-numbers.false, c.requires.kept.room, c.requires.fits.messages) in
     search rules
 
@@ -26,16 +26,16 @@ react-reaction-requires g c =
 pub overflow_add-numbers : goal.overflow_add-numbers
 overflow_add-numbers g c =
     let few = few_sent c.args.numbers.now.replicas c.requires.kept.some_replica c.react-reaction.result.post in
-    omega (arith, few, c.post-count-added.ensures, c.requires.kept.few_replicas, c.requires.kept.room, c.requires.kept.few_messages)
+    omega (arith, few, c.post_count-added.ensures, c.requires.kept.few_replicas, c.requires.kept.room, c.requires.kept.few_messages)
 
 pub returns-then-numbers-added : goal.returns-then-numbers-added
 returns-then-numbers-added g c =
     full _ c.args.start c.args.numbers.now _ c.requires.kept c.requires.fits c.requires.sound c.args.place
     c.if-at-numbers.false c.index-messages-at.result c.index-messages-at.is refl c.react-reaction.result c.react-reaction.ensures
-    c.if-message-numbers.false (rw (sym c.post-count-added.ensures) c.if-numbers-added.true)
+    c.if-message-numbers.false (rw (sym c.post_count-added.ensures) c.if-numbers-added.true)
 
 pub returns : goal.returns
 returns g c =
     planned _ c.args.start c.args.numbers.now _ c.requires.kept c.requires.fits c.requires.sound c.args.place
     c.if-at-numbers.false c.index-messages-at.result c.index-messages-at.is refl c.react-reaction.result c.react-reaction.ensures
-    c.if-message-numbers.false (rw (sym c.post-count-added.ensures) c.if-numbers-added.false)
+    c.if-message-numbers.false (rw (sym c.post_count-added.ensures) c.if-numbers-added.false)

@@ -12,6 +12,6 @@ returns g c =
     record {
       within = omega (arith, c.requires.slack);
       same =
-          ap (λ (l : List _). take used l) (c.copy-within.ensures.after ∙ ap (λ (k : ℕ). paste xs 0 (drop head xs) k) e)
+          ap (λ (l : List _). take used l) (c.copy_within.ensures.after ∙ ap (λ (k : ℕ). paste xs 0 (drop head xs) k) e)
           ∙ moved_to_start xs head used (omega (arith, c.requires.within, c.requires.fits));
     }

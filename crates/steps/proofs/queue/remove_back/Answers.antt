@@ -7,5 +7,5 @@ use Rattle.steps.proofs.queue.remove_back.Goals as goal
 pub returns : goal.returns
 returns g c =
     let xs = c.args.table.now in
-    ap (λ (l : List _). drop 1 l) (c.copy-within.ensures.after ∙ ap (λ (k : ℕ). paste xs 1 xs k) (sub-zero c.args.at))
+    ap (λ (l : List _). drop 1 l) (c.copy_within.ensures.after ∙ ap (λ (k : ℕ). paste xs 1 xs k) (sub-zero c.args.at))
     ∙ moved_back xs c.args.at c.requires

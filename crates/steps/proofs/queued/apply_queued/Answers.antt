@@ -3,8 +3,8 @@ use borrow.Author.Rules.{scaled_fits≤}
 use Rattle.steps.proofs.Queues.{window_back, part_long}
 use Rattle.steps.proofs.queued.apply_queued.Goals as goal
 
-pub offset-bounds-buffer-head : goal.offset-bounds-buffer-head
-offset-bounds-buffer-head g c =
+pub offset_bounds-buffer-head : goal.offset_bounds-buffer-head
+offset_bounds-buffer-head g c =
     let low : c.args.head ≤ length c.args.buffer.now = omega (arith, c.requires.within) in
     search (rules, scaled_fits≤)
 

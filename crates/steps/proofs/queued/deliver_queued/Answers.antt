@@ -13,15 +13,15 @@ returns-in-Ok g c =
     let start = c.args.start in
     let room = n.message_room in
     let t = tables c.args.replicas.now c.args.readers.now c.args.marks.now (window c.args.head room c.args.buffer.now) c.args.journal.now in
-    let head = c.take-out-head.result in
-    let buffer = c.take-out-head.new.buffer in
+    let head = c.take_out-head.result in
+    let buffer = c.take_out-head.new.buffer in
     let n₁ = with_waiting n (n.waiting - 1) in
     let t₁ = tables c.args.replicas.now c.args.readers.now c.args.marks.now (window head room buffer) c.args.journal.now in
-    let does = c.apply-queued-reply.ensures start in
+    let does = c.apply_queued-reply.ensures start in
     let gone = ap (λ (ms : List _). with_messages (view start n t) ms)
-    (window_gone c.args.buffer.now buffer c.args.head head room room n.waiting c.args.place refl c.requires.kept.room c.take-out-head.ensures.gone) in
+    (window_gone c.args.buffer.now buffer c.args.head head room room n.waiting c.args.place refl c.requires.kept.room c.take_out-head.ensures.gone) in
     record {
-      within = c.take-out-head.ensures.within;
+      within = c.take_out-head.ensures.within;
       advances = record {
         answer = delivered_answer _ start n t c.args.place c.in-Ok.reaction c.in-Ok.ensures n₁ t₁ gone _ _ _ does;
         state = delivered_state _ start n t c.args.place c.in-Ok.reaction c.in-Ok.ensures n₁ t₁ gone _ _ _ does;

@@ -6,8 +6,8 @@ use Rattle.steps.specs.Queueing.{window}
 use Rattle.steps.proofs.Queues.{window_back, part_long}
 use Rattle.steps.proofs.queued.step_queued.Goals as goal
 
-pub offset-bounds-buffer-head : goal.offset-bounds-buffer-head
-offset-bounds-buffer-head g c =
+pub offset_bounds-buffer-head : goal.offset_bounds-buffer-head
+offset_bounds-buffer-head g c =
     let low : c.args.head ≤ length c.args.buffer.now = omega (arith, c.requires.within) in
     search (rules, scaled_fits≤)
 
@@ -16,8 +16,8 @@ step-reply-requires g c =
     let e : c.args.head + c.args.numbers.now.message_room - c.args.head ≡ c.args.numbers.now.message_room = omega arith in
     rw e (record { kept = c.requires.kept; fits = c.requires.fits; sound = c.requires.sound })
 
-pub returns-in-default : goal.returns-in-default
-returns-in-default g c =
+pub returns-in_default : goal.returns-in_default
+returns-in_default g c =
     let n = c.args.numbers.now in
     let room = n.message_room in
     let head = c.args.head in

@@ -7,14 +7,14 @@ use Rattle.steps.proofs.starting.start_read.Goals as goal
 pub returns-in-Some : goal.returns-in-Some
 returns-in-Some g c = λ rule rs ks same.
     read_declined c.args.start rule c.args.numbers.now (tables rs c.args.readers.now ks c.args.messages.now c.args.journal.now)
-    c.requires.kept c.requires.messages-fit c.requires.journal-fits same c.args.reader c.args.kind c.in-Some.refusal c.in-Some.ensures.verdict
+    c.requires.kept c.requires.messages_fit c.requires.journal_fits same c.args.reader c.args.kind c.in-Some.refusal c.in-Some.ensures.verdict
 
 pub returns : goal.returns
 returns g c = λ rule rs ks same.
     let row = c.index-readers-reader.result in
     let clear = c.in-None.ensures.clear in
-    rw (c.open.ensures.numbers, c.open.ensures.messages, c.open.ensures.journal, c.opening-phase.ensures, c.opening-message.ensures)
+    rw (c.open.ensures.numbers, c.open.ensures.messages, c.open.ensures.journal, c.opening_phase.ensures, c.opening_message.ensures)
     (read_done c.args.start rule c.args.numbers.now (tables rs c.args.readers.now ks c.args.messages.now c.args.journal.now)
-    c.requires.kept c.requires.messages-fit c.requires.journal-fits same c.args.reader c.args.kind c.in-None.ensures.verdict
+    c.requires.kept c.requires.messages_fit c.requires.journal_fits same c.args.reader c.args.kind c.in-None.ensures.verdict
     clear.room clear.line row
     (sym (get_or_read c.args.readers.now c.args.reader row clear.there c.index-readers-reader.is _)))
