@@ -18,7 +18,25 @@ kept_of x = record {
 }
 
 pub keeps : {n : Numbers} → Kept n
-    → (1 ≤ n.replicas) × ((n.replicas ≤ 24) × ((1 ≤ n.readers) × ((n.readers ≤ 32) × ((n.waiting ≤ n.message_room)
-    × ((n.message_room ≤ 4096) × ((n.lines ≤ n.journal_room) × ((n.journal_room ≤ 4096) × ((n.writer.last ≤ n.lines) × Unit {0}))))))))
-keeps k =
-    (k.some_replica, (k.few_replicas, (k.some_reader, (k.few_readers, (k.room, (k.few_messages, (k.lines_fit, (k.few_lines, (k.stamps, tt)))))))))
+    → record {
+      some_replica : 1 ≤ n.replicas;
+      few_replicas : n.replicas ≤ 24;
+      some_reader : 1 ≤ n.readers;
+      few_readers : n.readers ≤ 32;
+      room : n.waiting ≤ n.message_room;
+      few_messages : n.message_room ≤ 4096;
+      lines_fit : n.lines ≤ n.journal_room;
+      few_lines : n.journal_room ≤ 4096;
+      stamps : n.writer.last ≤ n.lines;
+    }
+keeps k = record {
+  some_replica = k.some_replica;
+  few_replicas = k.few_replicas;
+  some_reader = k.some_reader;
+  few_readers = k.few_readers;
+  room = k.room;
+  few_messages = k.few_messages;
+  lines_fit = k.lines_fit;
+  few_lines = k.few_lines;
+  stamps = k.stamps;
+}

@@ -20,21 +20,21 @@ open-register-requires g c =
     let long : length (take (room - 0) items) ≡ room
     = length-take-le (room - 0) items (omega (arith, c.in-Ok-filled-3.queue.ok.0, twice)) ∙ sub-zero room in
     let made : Made d room c.args.journal_room t = record {
-      replicas = c.in-Ok.ensures.0 ∙ ap (λ r. replicate d.replicas r) c.new-replica.ensures;
-      readers = c.in-Ok-filled.ensures.0 ∙ ap (λ r. replicate d.readers r) c.new-reader.ensures;
-      marks = c.in-Ok-filled-2.ensures.0 ∙ ap (λ r. replicate (d.replicas * d.readers) r) c.new-mark.ensures;
+      replicas = c.in-Ok.ensures.0 ∙ ap (λ r. replicate d.replicas r) c.new_replica.ensures;
+      readers = c.in-Ok-filled.ensures.0 ∙ ap (λ r. replicate d.readers r) c.new_reader.ensures;
+      marks = c.in-Ok-filled-2.ensures.0 ∙ ap (λ r. replicate (d.replicas * d.readers) r) c.new_mark.ensures;
       messages = long;
       journal = sym c.in-Ok-filled-4.journal.ok.0 ∙ c.in-Ok-filled-4.ensures.1;
     } in
     rw (c.deref.ensures.value, c.deref-2.ensures.value, c.deref-3.ensures.value, c.deref-4.ensures.value, c.deref-5.ensures.value)
     (record {
-      lengths = made_allowed d _ _ t made (sym c.if-not-rooms-fit.ensures);
+      lengths = made_allowed d _ _ t made (sym c.if-not-rooms_fit.ensures);
       filled = made_filled d _ _ t made;
-      numbered = c.new-numbers-numbers.ensures ∙ made_numbers d _ _ t made;
+      numbered = c.new_numbers-numbers.ensures ∙ made_numbers d _ _ t made;
     })
 
-pub invariant-of-result : goal.invariant-of-result
-invariant-of-result g c =
+pub invariant_of-result : goal.invariant_of-result
+invariant_of-result g c =
     let d = c.args.self in
     let room = c.args.message_room in
     let items = vec_items c.in-Ok-filled-3.queue in
@@ -52,25 +52,16 @@ invariant-of-result g c =
     let service : InService g.R.QuorumSystem d x held
     = subst (λ (k : ℕ). InService g.R.QuorumSystem d x (tables (vec_items c.in-Ok.replicas) (vec_items c.in-Ok-filled.readers) (vec_items c.in-Ok-filled-2.marks) (take k items) (vec_items c.in-Ok-filled-4.journal)))
     (sub-zero room ∙ sym room-is) first in
-    let fit = sym c.if-not-rooms-fit.ensures in (
-      c.in-Ok.ensures.1 ∙ sym (ap (λ (n : Numbers). n.replicas) service.numbers),
-      (
-        c.in-Ok-filled.ensures.1 ∙ sym (ap (λ (n : Numbers). n.readers) service.numbers),
-        (
-          c.in-Ok-filled-2.ensures.1 ∙ sym (rw service.numbers),
-          (
-            omega (arith, room-is, twice),
-            (
-              omega (arith, room-is, twice, some_room d room c.args.journal_room fit),
-              (
-                c.in-Ok-filled-4.journal.ok.0 ∙ sym (ap (λ (n : Numbers). n.journal_room) service.numbers),
-                (new_sound g.R.QuorumSystem d x held service, tt),
-              ),
-            ),
-          ),
-        ),
-      ),
-    )
+    let fit = sym c.if-not-rooms_fit.ensures in
+    record {
+      replicas_fit = c.in-Ok.ensures.1 ∙ sym (ap (λ (n : Numbers). n.replicas) service.numbers);
+      readers_fit = c.in-Ok-filled.ensures.1 ∙ sym (ap (λ (n : Numbers). n.readers) service.numbers);
+      marks_fit = c.in-Ok-filled-2.ensures.1 ∙ sym (rw service.numbers);
+      queue_fits = omega (arith, room-is, twice);
+      queue_slack = omega (arith, room-is, twice, some_room d room c.args.journal_room fit);
+      journal_fits = c.in-Ok-filled-4.journal.ok.0 ∙ sym (ap (λ (n : Numbers). n.journal_room) service.numbers);
+      sound = new_sound g.R.QuorumSystem d x held service;
+    }
 
 pub returns : goal.returns
 returns g c =
@@ -91,7 +82,7 @@ returns g c =
     let service : InService g.R.QuorumSystem d x held
     = subst (λ (k : ℕ). InService g.R.QuorumSystem d x (tables (vec_items c.in-Ok.replicas) (vec_items c.in-Ok-filled.readers) (vec_items c.in-Ok-filled-2.marks) (take k items) (vec_items c.in-Ok-filled-4.journal)))
     (sub-zero room ∙ sym room-is) first in
-    let fit = sym c.if-not-rooms-fit.ensures in (
+    let fit = sym c.if-not-rooms_fit.ensures in (
       fit,
       record {
         rule = service.same_meaning;

@@ -4,8 +4,8 @@ use Rattle.register.proofs.Commissions.{kept_first, in_service}
 use Rattle.register.proofs.Invariants.{keeps}
 use Rattle.register.proofs.service.Draft.open.Goals as goal
 
-pub invariant-of-result : goal.invariant-of-result
-invariant-of-result g c =
+pub invariant_of-result : goal.invariant_of-result
+invariant_of-result g c =
     let k = kept_first c.args.self (tables c.args.replicas.now c.args.readers.now c.args.marks.now c.args.messages.now c.args.journal.now)
     c.requires.lengths c.args.numbers c.requires.numbered in
     keeps k

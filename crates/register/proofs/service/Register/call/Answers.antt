@@ -11,8 +11,8 @@ returns-in-Some g c = record {
   carries = carries_declined _ _ _ _ _ _ (kept_of c.args.self.now) c.in-Some.ensures;
 }
 
-pub invariant-of-self : goal.invariant-of-self
-invariant-of-self g c = keeps c.step.ensures.kept
+pub invariant_of-self : goal.invariant_of-self
+invariant_of-self g c = keeps c.step.ensures.kept
 
 pub returns : goal.returns
 returns g c = record {

@@ -11,8 +11,8 @@ returns-in-Some g c = record {
   carries = carries_declined _ _ _ _ _ _ (kept_of c.args.self.now) c.in-Some.ensures;
 }
 
-pub invariant-of-self : goal.invariant-of-self
-invariant-of-self g c = keeps c.deliver-message.ensures.kept
+pub invariant_of-self : goal.invariant_of-self
+invariant_of-self g c = keeps c.deliver_message.ensures.kept
 
 pub returns : goal.returns
 returns g c = record {
@@ -21,11 +21,11 @@ returns g c = record {
   carries =
       carries_judged _ _ _ _ _ _ _ _ c.in-None.ensures
       (record {
-        replicas = c.deliver-message.auto.replicas;
-        readers = c.deliver-message.auto.readers;
-        marks = c.deliver-message.auto.marks;
-        messages = c.deliver-message.auto.messages;
-        journal = c.deliver-message.auto.journal;
+        replicas = c.deliver_message.auto.replicas;
+        readers = c.deliver_message.auto.readers;
+        marks = c.deliver_message.auto.marks;
+        messages = c.deliver_message.auto.messages;
+        journal = c.deliver_message.auto.journal;
       })
-      c.deliver-message.ensures;
+      c.deliver_message.ensures;
 }

@@ -11,8 +11,8 @@ returns-in-Some g c = record {
   carries = carries_declined _ _ _ _ _ _ (kept_of c.args.self.now) c.in-Some.ensures;
 }
 
-pub invariant-of-self : goal.invariant-of-self
-invariant-of-self g c = keeps (c.drop-message.ensures c.args.self.now.start (meaning g.R.QuorumSystem c.args.self.now) c.args.replicas.now c.args.readers.now c.args.marks.now c.args.journal.now c.in-None.ensures.fitting.journal).kept
+pub invariant_of-self : goal.invariant_of-self
+invariant_of-self g c = keeps (c.drop_message.ensures c.args.self.now.start (meaning g.R.QuorumSystem c.args.self.now) c.args.replicas.now c.args.readers.now c.args.marks.now c.args.journal.now c.in-None.ensures.fitting.journal).kept
 
 pub returns : goal.returns
 returns g c = record {
@@ -24,8 +24,8 @@ returns g c = record {
         replicas = refl;
         readers = refl;
         marks = refl;
-        messages = c.drop-message.auto.messages;
+        messages = c.drop_message.auto.messages;
         journal = refl;
       })
-      (c.drop-message.ensures _ _ _ _ _ _ c.in-None.ensures.fitting.journal);
+      (c.drop_message.ensures _ _ _ _ _ _ c.in-None.ensures.fitting.journal);
 }

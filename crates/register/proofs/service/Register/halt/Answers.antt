@@ -11,8 +11,8 @@ returns-in-Some g c = record {
   carries = carries_declined _ _ _ _ _ _ (kept_of c.args.self.now) c.in-Some.ensures;
 }
 
-pub invariant-of-self : goal.invariant-of-self
-invariant-of-self g c = keeps (c.halt-party.ensures c.args.self.now.start (meaning g.R.QuorumSystem c.args.self.now) c.args.marks.now c.args.messages.now c.args.journal.now (sym c.in-None.ensures.fitting.replicas) c.in-None.ensures.fitting.messages c.in-None.ensures.fitting.journal).kept
+pub invariant_of-self : goal.invariant_of-self
+invariant_of-self g c = keeps (c.halt_party.ensures c.args.self.now.start (meaning g.R.QuorumSystem c.args.self.now) c.args.marks.now c.args.messages.now c.args.journal.now (sym c.in-None.ensures.fitting.replicas) c.in-None.ensures.fitting.messages c.in-None.ensures.fitting.journal).kept
 
 pub returns : goal.returns
 returns g c = record {
@@ -21,11 +21,11 @@ returns g c = record {
   carries =
       carries_judged _ _ _ _ _ _ _ _ c.in-None.ensures
       (record {
-        replicas = c.halt-party.auto.replicas;
-        readers = c.halt-party.auto.readers;
+        replicas = c.halt_party.auto.replicas;
+        readers = c.halt_party.auto.readers;
         marks = refl;
         messages = refl;
         journal = refl;
       })
-      (c.halt-party.ensures _ _ _ _ _ (sym c.in-None.ensures.fitting.replicas) c.in-None.ensures.fitting.messages c.in-None.ensures.fitting.journal);
+      (c.halt_party.ensures _ _ _ _ _ (sym c.in-None.ensures.fitting.replicas) c.in-None.ensures.fitting.messages c.in-None.ensures.fitting.journal);
 }

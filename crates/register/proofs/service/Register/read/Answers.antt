@@ -11,8 +11,8 @@ returns-in-Some g c = record {
   carries = carries_declined _ _ _ _ _ _ (kept_of c.args.self.now) c.in-Some.ensures;
 }
 
-pub invariant-of-self : goal.invariant-of-self
-invariant-of-self g c = keeps (c.start-read.ensures (meaning g.R.QuorumSystem c.args.self.now) c.args.replicas.now c.args.marks.now refl).kept
+pub invariant_of-self : goal.invariant_of-self
+invariant_of-self g c = keeps (c.start_read.ensures (meaning g.R.QuorumSystem c.args.self.now) c.args.replicas.now c.args.marks.now refl).kept
 
 pub returns : goal.returns
 returns g c = record {
@@ -22,10 +22,10 @@ returns g c = record {
       carries_judged _ _ _ _ _ _ _ _ c.in-None.ensures
       (record {
         replicas = refl;
-        readers = c.start-read.auto.readers;
+        readers = c.start_read.auto.readers;
         marks = refl;
-        messages = c.start-read.auto.messages;
-        journal = c.start-read.auto.journal;
+        messages = c.start_read.auto.messages;
+        journal = c.start_read.auto.journal;
       })
-      (c.start-read.ensures _ _ _ refl);
+      (c.start_read.ensures _ _ _ refl);
 }

@@ -4,27 +4,27 @@ use Rattle.register.proofs.Invariants.{kept_of}
 use Rattle.tables.specs.View.{tables}
 use Rattle.register.proofs.service.Register.refusal.Goals as goal
 
-pub returns-then-not-lengths-fit : goal.returns-then-not-lengths-fit
-returns-then-not-lengths-fit g c = declines_lengths _ _ _ _ (sym c.if-not-lengths-fit.ensures)
+pub returns-then-not-lengths_fit : goal.returns-then-not-lengths_fit
+returns-then-not-lengths_fit g c = declines_lengths _ _ _ _ (sym c.if-not-lengths_fit.ensures)
 
-pub tables-sound-requires : goal.tables-sound-requires
-tables-sound-requires g c =
+pub tables_sound-requires : goal.tables_sound-requires
+tables_sound-requires g c =
     let kept = kept_of c.args.self.now in
     let fits = fits_tells c.args.self.now.numbers
     (tables c.args.replicas.now c.args.readers.now c.args.marks.now c.args.messages.now c.args.journal.now)
-    (sym c.if-not-lengths-fit.ensures) in
+    (sym c.if-not-lengths_fit.ensures) in
     record {
       replicas = kept.few_replicas;
       waiting = omega (arith, kept.room, fits.messages);
       lines = omega (arith, kept.lines_fit, fits.journal);
     }
 
-pub returns-then-not-tables-sound : goal.returns-then-not-tables-sound
-returns-then-not-tables-sound g c =
-    declines_unsound _ _ _ _ (sym c.if-not-lengths-fit.ensures) (sym (c.if-not-tables-sound.ensures _ refl _ _))
+pub returns-then-not-tables_sound : goal.returns-then-not-tables_sound
+returns-then-not-tables_sound g c =
+    declines_unsound _ _ _ _ (sym c.if-not-lengths_fit.ensures) (sym (c.if-not-tables_sound.ensures _ refl _ _))
 
 pub returns : goal.returns
 returns g c = record {
-  fitting = fits_tells _ _ (sym c.if-not-lengths-fit.ensures);
-  is_sound = sym (c.if-not-tables-sound.ensures _ refl _ _);
+  fitting = fits_tells _ _ (sym c.if-not-lengths_fit.ensures);
+  is_sound = sym (c.if-not-tables_sound.ensures _ refl _ _);
 }

@@ -11,8 +11,8 @@ returns-in-Some g c = record {
   carries = carries_declined _ _ _ _ _ _ (kept_of c.args.self.now) c.in-Some.ensures;
 }
 
-pub invariant-of-self : goal.invariant-of-self
-invariant-of-self g c = keeps (c.start-write.ensures c.args.self.now.start (meaning g.R.QuorumSystem c.args.self.now) c.args.replicas.now c.args.readers.now c.args.marks.now refl).kept
+pub invariant_of-self : goal.invariant_of-self
+invariant_of-self g c = keeps (c.start_write.ensures c.args.self.now.start (meaning g.R.QuorumSystem c.args.self.now) c.args.replicas.now c.args.readers.now c.args.marks.now refl).kept
 
 pub returns : goal.returns
 returns g c = record {
@@ -24,8 +24,8 @@ returns g c = record {
         replicas = refl;
         readers = refl;
         marks = refl;
-        messages = c.start-write.auto.messages;
-        journal = c.start-write.auto.journal;
+        messages = c.start_write.auto.messages;
+        journal = c.start_write.auto.journal;
       })
-      (c.start-write.ensures _ _ _ _ _ refl);
+      (c.start_write.ensures _ _ _ _ _ refl);
 }
