@@ -9,8 +9,8 @@ use Rattle.player.specs.Rules.{rule_said}
 use Rattle.player.specs.Playing.{answers, set_up}
 use Rattle.player.proofs.playing.play_kind.Goals as goal
 
-pub returns-in-err-play-calls : goal.returns-in-err-play-calls
-returns-in-err-play-calls g c = IfOk-from_err _ _ c.from-residual.ensures.0
+pub returns-in_err-play_calls : goal.returns-in_err-play_calls
+returns-in_err-play_calls g c = IfOk-from_err _ _ c.from_residual.ensures.0
 
 -- the cluster is the register that the header sets up
 pub returns : goal.returns
@@ -25,5 +25,5 @@ returns g c =
     = founded.state
     ∙ ap₂ (λ r f. fresh r f c.in-Ok-new.draft.readers 1024 256) (draft-made.4 ∙ rule_made.0) (draft-made.3 ∙ c.start.ensures)
     ∙ ap (λ n. fresh (rule_said h.rule) g.F.FigureKind.starting n 1024 256) draft-made.2 in
-    c.in-ok-play-calls.ensures
+    c.in_ok-play_calls.ensures
     ∙ ap₂ (λ (r : Rule) (s : State _). vec_items c.args.out.now ++ answers g.F.FigureKind r s 2 (lines_ahead c.args.lines)) rule state
