@@ -1,6 +1,8 @@
 //! The bench: plays a script, from the file that its argument names or from standard input, and prints an answer to each line.
 //!
 //! What it prints is `player::play` of the script; this program only reads and writes.
+#![tactic(auto)]
+
 use anyhow::anyhow;
 use player::play;
 use std::fs::File;

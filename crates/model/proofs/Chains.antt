@@ -9,7 +9,6 @@ use Rattle.model.specs.declared.replica.Replica.{Replica}
 use Rattle.model.specs.declared.reader.Reader.{Reader}
 use Rattle.model.specs.declared.marks.RelayMark.{RelayMark}
 use Rattle.model.specs.declared.messages.Message.{Message}
-use Rattle.model.specs.declared.answers.Reply.{Reply}
 use Rattle.model.specs.State.{Held, index, new_replica, new_reader, new_mark}
 use Rattle.model.specs.Deliveries.{to_all, in_first, in_second, in_relay}
 use Rattle.model.specs.Claims.{In}

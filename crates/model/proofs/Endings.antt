@@ -6,11 +6,7 @@ use Rattle.quorum.specs.Laws.{Lawful}
 use Rattle.model.specs.declared.parties.Party.{Party}
 use Rattle.model.specs.declared.reader.Phase.{Phase}
 use Rattle.model.specs.declared.messages.MessageKind.{MessageKind}
-use Rattle.model.specs.declared.writer.Writer.{Writer}
-use Rattle.model.specs.declared.replica.Replica.{Replica}
-use Rattle.model.specs.declared.reader.Reader.{Reader}
 use Rattle.model.specs.declared.messages.Message.{Message}
-use Rattle.model.specs.declared.answers.Reply.{Reply}
 use Rattle.model.specs.State.{State, halted}
 use Rattle.model.specs.History.{History}
 use Rattle.model.specs.Claims.{In, Finished, Undropped, Unawaited, working, Finishing}

@@ -7,7 +7,6 @@ use Rattle.quorum.specs.Laws.{Lawful}
 use Rattle.model.specs.declared.parties.Party.{Party}
 use Rattle.model.specs.declared.reader.Phase.{Phase}
 use Rattle.model.specs.declared.writer.Writer.{Writer}
-use Rattle.model.specs.declared.replica.Replica.{Replica}
 use Rattle.model.specs.declared.reader.Reader.{Reader}
 use Rattle.model.specs.declared.messages.Message.{Message}
 use Rattle.model.specs.declared.journal.Operation.{Operation}
@@ -16,7 +15,7 @@ use Rattle.model.specs.declared.answers.Reply.{Reply}
 use Rattle.model.specs.Stamps.{rank}
 use Rattle.model.specs.State.{State, Held, new_reader, new_mark, no_line, line, with_reader}
 use Rattle.model.specs.Records.{one_more, ended}
-use Rattle.model.specs.Deliveries.{finish_event, finishing, on}
+use Rattle.model.specs.Deliveries.{finish_event, finishing}
 use Rattle.model.specs.History.{Event, History}
 use Rattle.model.proofs.Lists.{each_set, get_set}
 use Rattle.model.proofs.World.{put_same, put_other, put_each, Op, World, Onward, Later, OpGood}

@@ -1,12 +1,12 @@
 -- Once a read has shown an unfinished write, a later read shows no older one.
-use Rattle.std.proofs.Common.{◌≡◌, ℕ, ◌<◌, ◌≤◌, ◌⊎◌, List, sym, refl, ap, ◌∙◌, subst, inl, inr, arith}
+use Rattle.std.proofs.Common.{◌≡◌, ℕ, ◌≤◌, ◌⊎◌, List, refl, ap, subst, inl, inr, arith}
 use Rattle.std.specs.List.{AllByRecursion as All}
 use Rattle.model.specs.Stamps.{Stamp, rank, no_stamp}
 use Rattle.model.specs.State.{Held, unused}
 use Rattle.model.specs.History.{History}
 use Rattle.model.specs.Claims.{In, Finishes, Writes, Shows, Belongs, Row}
 use Rattle.model.specs.Refuted.{value, first, second, second_read}
-use Rattle.model.proofs.Ranks.{rank_start, rank_next}
+use Rattle.model.proofs.Ranks.{rank_next}
 use Rattle.model.proofs.Slate.{before_trans, shown_after, shows_after, past, Tells, write_tells, read_tells}
 use Rattle.model.proofs.Slate.{finish_tells, written, writes_from, ended, finish_at, write_at, read_at}
 

@@ -10,10 +10,9 @@ use Rattle.model.specs.declared.reader.Reader.{Reader}
 use Rattle.model.specs.declared.messages.Message.{Message}
 use Rattle.model.specs.declared.answers.Reply.{Reply}
 use Rattle.model.specs.Stamps.{rank}
-use Rattle.model.specs.State.{State, index, new_mark, reader, line, held, with_reader}
+use Rattle.model.specs.State.{State, index, new_mark, reader, line, with_reader}
 use Rattle.model.specs.Records.{best, heard, confirmed, placing, reader_freed}
 use Rattle.model.specs.Deliveries.{Effect, quiet, sending, to_all, carried, in_first, in_second, counts, read_finishing, is_quick, after_have, on_have_at, on_have, after_last, on_back_ack_at, on_back_ack}
-use Rattle.model.specs.Steps.{settled}
 use Rattle.model.specs.History.{History}
 use Rattle.model.proofs.Sets.{none, joined_cases}
 use Rattle.model.proofs.Lists.{each_set_all, all_to_all}

@@ -9,7 +9,6 @@ use Rattle.model.specs.declared.replica.Replica.{Replica}
 use Rattle.model.specs.declared.reader.Reader.{Reader}
 use Rattle.model.specs.declared.marks.RelayMark.{RelayMark}
 use Rattle.model.specs.declared.messages.Message.{Message}
-use Rattle.model.specs.declared.answers.Reply.{Reply}
 use Rattle.model.specs.State.{State, Held, index, new_reader, new_mark, reader, line, mark_place, held, with_messages, with_held}
 use Rattle.model.specs.Records.{took, lowered, reader_freed, marked, mark_replied}
 use Rattle.model.specs.Deliveries.{Effect, carried, answer, in_relay, counts, after_last, on_reply, on_relay_at, on_relay}

@@ -18,7 +18,7 @@ use Rattle.model.specs.Claims.{In}
 use Rattle.model.proofs.Sets.{none, joined_same, joined_old}
 use Rattle.model.proofs.Lists.{each_set, each_set_all, in_left, in_right}
 use Rattle.model.proofs.World.{round_some, World}
-use Rattle.model.proofs.Good.{Ack, Report, Says, First, Second, Good}
+use Rattle.model.proofs.Good.{Ack, Report, Says, Good}
 use Rattle.model.proofs.Waits.{to_first, to_second, to_relaying, counts_parts, Hearing, hearing_by, hearing_heard}
 use Rattle.model.proofs.Chains.{kind_code, Awake, To, waits_all, relays_all, Exchange, RelayLive, ReaderLive, AtIt, Live, Passes, Swaps, no_swap, answered, counted, carry, RelaySwaps, plain, reader_carry, writer_carry}
 

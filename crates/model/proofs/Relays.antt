@@ -8,7 +8,6 @@ use Rattle.model.specs.declared.messages.MessageKind.{MessageKind}
 use Rattle.model.specs.declared.reader.Reader.{Reader}
 use Rattle.model.specs.declared.marks.RelayMark.{RelayMark}
 use Rattle.model.specs.declared.messages.Message.{Message}
-use Rattle.model.specs.declared.answers.Reply.{Reply}
 use Rattle.model.specs.Stamps.{rank}
 use Rattle.model.specs.State.{State, Held, index, new_mark, reader, line, mark_place, held, with_held}
 use Rattle.model.specs.Records.{took, best, lowered, reader_freed, marked, mark_replied}

@@ -13,7 +13,7 @@ use Rattle.model.specs.declared.reader.Reader.{Reader}
 use Rattle.model.specs.declared.marks.RelayMark.{RelayMark}
 use Rattle.model.specs.declared.messages.Message.{Message}
 use Rattle.model.specs.declared.journal.Operation.{Operation}
-use Rattle.model.specs.State.{State, Held, no_line, new_reader, reader, line, mark_place, with_writer, with_replicas}
+use Rattle.model.specs.State.{State, Held, no_line, new_reader, reader, mark_place, with_writer, with_replicas}
 use Rattle.model.specs.State.{with_reader, with_mark, with_messages, with_journal, without_message}
 use Rattle.model.specs.Deliveries.{with_finish}
 use Rattle.model.specs.Steps.{counted, posted, with_line}

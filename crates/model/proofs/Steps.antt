@@ -23,7 +23,7 @@ use Rattle.model.specs.History.{Event, History}
 use Rattle.model.proofs.Lists.{each_set_all, at_new, all_without, all_to_all}
 use Rattle.model.proofs.World.{Op, World, Later}
 use Rattle.model.proofs.Moves.{ticked, later_ticked, core_ticked}
-use Rattle.model.proofs.Good.{current, True, Asks, Says, First, Second, InPhase, Writing, LineGood, AtWork, Told, Good, Kept, Keeps, true_later, mark_later, messages_later, phase_later, writing_later, line_later, advance}
+use Rattle.model.proofs.Good.{current, True, Asks, Says, InPhase, Writing, LineGood, AtWork, Told, Good, Kept, Keeps, true_later, mark_later, messages_later, phase_later, writing_later, line_later, advance}
 
 -- What is known does not go by the counts of messages in the journal.
 module _ {F : Type 0} where

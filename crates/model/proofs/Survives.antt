@@ -6,12 +6,10 @@ use Rattle.quorum.specs.Laws.{Lawful}
 use Rattle.model.specs.declared.parties.Party.{Party}
 use Rattle.model.specs.declared.messages.MessageKind.{MessageKind}
 use Rattle.model.specs.declared.journal.ReadKind.{ReadKind}
-use Rattle.model.specs.declared.writer.Writer.{Writer}
 use Rattle.model.specs.declared.replica.Replica.{Replica}
 use Rattle.model.specs.declared.reader.Reader.{Reader}
 use Rattle.model.specs.declared.messages.Message.{Message}
 use Rattle.model.specs.declared.calls.Call.{Call}
-use Rattle.model.specs.declared.answers.Reply.{Reply}
 use Rattle.model.specs.State.{State, Held, unused, without, new_replica, new_mark, no_message, reader, message, halted, without_message}
 use Rattle.model.specs.Deliveries.{to_all, on, received}
 use Rattle.model.specs.History.{History}

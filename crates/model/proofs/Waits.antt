@@ -5,14 +5,12 @@ use Rattle.quorum.specs.Sets.{Rule, bits, joined}
 use Rattle.quorum.specs.Laws.{Lawful}
 use Rattle.model.specs.declared.parties.Party.{Party}
 use Rattle.model.specs.declared.reader.Phase.{Phase}
-use Rattle.model.specs.declared.writer.Writer.{Writer}
-use Rattle.model.specs.declared.replica.Replica.{Replica}
 use Rattle.model.specs.declared.reader.Reader.{Reader}
 use Rattle.model.specs.declared.messages.Message.{Message}
 use Rattle.model.specs.Stamps.{rank}
 use Rattle.model.specs.State.{State, Held, index, line, with_writer}
 use Rattle.model.specs.Records.{acknowledged, writer_freed, replied_by, heard, lowered, one_more, ended}
-use Rattle.model.specs.Deliveries.{Effect, quiet, finish_event, finishing, written, on_put_ack, in_first, in_second, in_relay, counts, on}
+use Rattle.model.specs.Deliveries.{Effect, quiet, finish_event, finishing, written, on_put_ack, in_first, in_second, in_relay, counts}
 use Rattle.model.specs.History.{History}
 use Rattle.model.proofs.Sets.{none, joined_cases}
 use Rattle.model.proofs.World.{held_from, World}

@@ -1,11 +1,10 @@
 -- A first line that is accepted: its rule and its draft can be made, and the rule is lawful.
-use Rattle.std.proofs.Common.{◌≡◌, ℕ, ◌+◌, ◌*◌, ◌<◌, ◌≤◌, Bool, true, false, cond, ◌&&◌, ltb, leb, List, Some, None, Ok, Err, Option, Result, sym, refl, ap, ◌∙◌, subst, arith}
+use Rattle.std.proofs.Common.{◌≡◌, ℕ, ◌*◌, Bool, true, false, cond, ◌&&◌, ltb, List, Some, None, Ok, Err, Option, Result, refl, subst, arith}
 use Rattle.std.proofs.lemmas.Bool.Decides.{nat_tests}
 use Rattle.std.proofs.lemmas.Bool.{and_parts, ltb-true}
-use Rattle.quorum.specs.Sets.{Rule}
 use Rattle.quorum.specs.Laws.{Lawful}
-use Rattle.quorum.specs.Families.{count_rule, grid_rule, lead_rule, grouped_rule}
-use Rattle.quorum.specs.Refusals.{limited, sized, product_fits, count_refusal, lead_refusal, product_refusal}
+use Rattle.quorum.specs.Families.{count_rule}
+use Rattle.quorum.specs.Refusals.{limited, sized, product_fits, count_refusal}
 use Rattle.quorum.specs.declared.refusal.RuleRefusal.{RuleRefusal}
 use Rattle.quorum.proofs.CountLaws.{count_lawful}
 use Rattle.quorum.proofs.GridLaws.{grid_lawful}

@@ -1,5 +1,5 @@
 -- The claims over a script.
-use Rattle.std.proofs.Common.{◌≡◌, ℕ, ◌+◌, List, [], ◌∷◌, ◌++◌, Ok, Err, Result, sym, refl, ap, ◌∙◌}
+use Rattle.std.proofs.Common.{◌≡◌, ℕ, ◌+◌, List, [], ◌∷◌, ◌++◌, Ok, Err, Result, refl, ap}
 use Rattle.quorum.specs.Sets.{Rule}
 use Rattle.figure.specs.contracts.order.DigOrderFigureKind.TheImpl.{ghosts as order_kind}
 use Rattle.figure.specs.contracts.tide.TideFigureKind.TheImpl.{ghosts as tide_kind}
@@ -18,7 +18,7 @@ use Rattle.script.specs.declared.header.Header.{Header}
 use Rattle.script.specs.declared.header.Kind.{Kind}
 use Rattle.script.specs.Answers.{answer_of, line_shown}
 use Rattle.script.specs.Calls.{call_of}
-use Rattle.script.specs.Openings.{opening, opening_of}
+use Rattle.script.specs.Openings.{opening}
 use Rattle.player.specs.Rules.{rule_said}
 use Rattle.player.specs.Playing.{turned, answers, set_up}
 use Rattle.player.specs.Served.{call_or, calls_in, told_line, told, ServedCalls, served_kind, served_script, ScriptServed}

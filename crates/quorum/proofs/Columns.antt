@@ -1,5 +1,5 @@
 -- The columns of a grid, as masks.
-use Rattle.std.proofs.Common.{◌≡◌, ℕ, zero, suc, ◌+◌, ◌-◌, ◌*◌, ◌/◌, ◌%◌, ◌^◌, Bool, true, false, not, ◌&&◌, ◌||◌, eqb, ◌⊎◌, sym, refl, ap, ◌∙◌, ap₂, inl, inr, mod-lt, pow-suc, add-one, one-add, arith, pow_pos}
+use Rattle.std.proofs.Common.{◌≡◌, ℕ, zero, suc, ◌+◌, ◌-◌, ◌*◌, ◌/◌, ◌%◌, ◌^◌, not, ◌&&◌, ◌||◌, eqb, ◌⊎◌, sym, ap, ◌∙◌, ap₂, inl, inr, mod-lt, pow-suc, add-one, one-add, arith, pow_pos}
 use mathlib.Core.Path.{fun_ext}
 use mathlib.Core.Bool.{and-true, and_comm, or_comm}
 use native.Mathlib.Nat.{mod-one}

@@ -1,10 +1,10 @@
 -- Groups, gathered one by one into a mask.
-use Rattle.std.proofs.Common.{◌≡◌, ℕ, ◌+◌, ◌-◌, ◌*◌, ◌/◌, ◌^◌, ◌<◌, Bool, true, false, ◌&&◌, ◌||◌, eqb, ltb, ◌⊎◌, sym, refl, ap, ◌∙◌, ap₂, inl, inr, arith}
+use Rattle.std.proofs.Common.{◌≡◌, ℕ, ◌+◌, ◌-◌, ◌*◌, ◌/◌, ◌^◌, ◌<◌, Bool, true, false, ◌&&◌, ◌||◌, eqb, ltb, ◌⊎◌, sym, ap, ◌∙◌, ap₂, inl, inr, arith}
 use mathlib.Core.Path.{fun_ext}
 use mathlib.Core.Bool.{or-false, and_comm}
 use lib.Bits.{bit_and}
 use Rattle.std.proofs.lemmas.Bool.{cases_order, or_right, and_from, and_left, and_right, lt-ltb, le-ltb, eq-eqb, ne_eqb}
-use Rattle.quorum.specs.Sets.{Members, Family, bits, joined, insert}
+use Rattle.quorum.specs.Sets.{Members, bits, joined, insert}
 use Rattle.quorum.specs.Families.{part}
 use Rattle.quorum.proofs.Masks.{bits_none, bits_and, bits_shift, bits_below, bits_joined}
 

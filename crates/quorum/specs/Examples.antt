@@ -1,5 +1,5 @@
 -- Worked examples of the rules, as one statement.
-use Rattle.std.specs.Prelude.{◌≡◌, ℕ, Bool, true, false, ◌||◌, List, [], ◌∷◌, Some, None, Option, ◌==◌}
+use Rattle.std.specs.Prelude.{◌≡◌, ℕ, true, false, ◌||◌, List, [], ◌∷◌, Some, None, Option, ◌==◌}
 use Rattle.quorum.specs.declared.refusal.RuleRefusal.{RuleRefusal}
 use Rattle.quorum.specs.Sets.{Members, Rule}
 use Rattle.quorum.specs.Families.{count_rule, grid_rule, lead_rule, grouped_rule}

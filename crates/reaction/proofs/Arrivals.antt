@@ -1,5 +1,5 @@
 -- A message that waits in sound tables is deliverable, and its delivery is what its reaction comes to.
-use Rattle.std.proofs.Common.{◌≡◌, ℕ, ◌<◌, true, List, [], length, take, sym, ap, ◌∙◌, arith, length-take}
+use Rattle.std.proofs.Common.{◌≡◌, ℕ, ◌<◌, true, length, ap, ◌∙◌, arith, length-take}
 use Rattle.std.proofs.ByRecursion.{All-get_or}
 use Rattle.quorum.specs.Sets.{Rule}
 use Rattle.model.specs.State.{State, no_message, message, without, without_message}

@@ -1,5 +1,5 @@
 -- The model's step on a delivered message is what its reaction comes to.
-use Rattle.std.proofs.Common.{◌≡◌, ℕ, Bool, true, false, cond, not, ◌&&◌, ◌||◌, eqb, ltb, List, [], ◌∷◌, length, Some, None, Option, sym, refl, ap, ◌∙◌}
+use Rattle.std.proofs.Common.{◌≡◌, ℕ, Bool, true, false, cond, not, ◌&&◌, eqb, ltb, List, [], ◌∷◌, length, Some, None, Option, sym, refl, ap, ◌∙◌}
 use Rattle.std.proofs.lemmas.Bool.{false≢true, and_parts, eqb-true, cond_both}
 use Rattle.quorum.specs.Sets.{Rule, bits, joined}
 use Rattle.model.specs.declared.parties.Party.{Party}
@@ -28,7 +28,7 @@ use Rattle.reaction.specs.Reactions.{nothing, at_replica, at_writer, finish_with
 use Rattle.reaction.specs.Reactions.{holding, offered, answer_to, noted, after_mark, to_mark, replica_reaction, raised, lowers}
 use Rattle.reaction.specs.Reactions.{hears, moved, after_heard, counts, reader_reaction}
 use Rattle.reaction.specs.Reactions.{writer_reaction, reaction}
-use Rattle.reaction.specs.Applied.{applied, changed}
+use Rattle.reaction.specs.Applied.{applied}
 
 -- Two choices by one test agree where both ways do.
 splits : {A B : Type 0} (g : A → B) (b : Bool) (x z : B) (y w : A) → (b ≡ true → x ≡ g y) → (b ≡ false → z ≡ g w)

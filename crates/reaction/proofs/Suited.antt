@@ -1,5 +1,5 @@
 -- The reaction to a deliverable message is applicable: it is about the message's operation.
-use Rattle.std.proofs.Common.{◌≡◌, ℕ, ◌+◌, ◌*◌, Bool, true, cond, not, ◌&&◌, eqb, ltb, length, get_or, sym, refl, ◌∙◌, subst}
+use Rattle.std.proofs.Common.{◌≡◌, ℕ, ◌+◌, ◌*◌, not, ◌&&◌, eqb, ltb, length, get_or, sym, refl, ◌∙◌, subst}
 use Rattle.std.proofs.lemmas.Bool.{and_parts, eqb-true, cond_both}
 use Rattle.quorum.specs.Sets.{Rule, Family, bits}
 use Rattle.model.specs.declared.parties.Party.{Party}
@@ -12,13 +12,12 @@ use Rattle.model.specs.declared.replica.Replica.{Replica}
 use Rattle.model.specs.declared.journal.Operation.{Operation}
 use Rattle.model.specs.declared.messages.Message.{Message}
 use Rattle.model.specs.State.{State, index, new_mark, reader, replica, line}
-use Rattle.model.specs.Records.{acknowledged, best, replied_by}
-use Rattle.model.specs.Deliveries.{carried}
+use Rattle.model.specs.Records.{acknowledged}
 use Rattle.tables.specs.declared.numbers.Numbers.{Numbers}
 use Rattle.reaction.specs.declared.reaction.Reaction.{Reaction}
 use Rattle.reaction.specs.declared.reaction.Move.{Move}
-use Rattle.reaction.specs.Reactions.{nothing, meant, counts, hears, lowers, after_message, next_move, moved, after_heard, to_reader, to_writer}
-use Rattle.reaction.specs.Reactions.{noted, outdated, offered, after_mark, to_mark, replica_reaction, to_replica, reaction_of, reaction}
+use Rattle.reaction.specs.Reactions.{nothing, counts, hears, lowers, after_message, next_move, moved, after_heard, to_reader, to_writer}
+use Rattle.reaction.specs.Reactions.{noted, outdated, offered, after_mark, to_mark, replica_reaction, reaction_of, reaction}
 use Rattle.reaction.specs.Applied.{HasLine, Applicable}
 
 module _ {F : Type 0} (n : Numbers) (m : Message F) (there : HasLine n.lines m.operation) where

@@ -1,5 +1,5 @@
 -- A draft's register over new tables of its own.
-use Rattle.std.proofs.Common.{◌≡◌, ℕ, ◌*◌, ◌≤◌, true, ◌&&◌, eqb, List, length, replicate, sym, refl, ap, ◌∙◌, ap₂, arith}
+use Rattle.std.proofs.Common.{◌≡◌, ℕ, ◌*◌, ◌≤◌, true, List, length, replicate, sym, ap, ◌∙◌, ap₂, arith}
 use lib.ListN.{length-replicate}
 use Rattle.std.proofs.lemmas.Bool.{eq-eqb}
 use Rattle.std.proofs.lemmas.Bool.Decides.{nat_tests}
@@ -13,7 +13,7 @@ use Rattle.register.specs.declared.service.Register.{Register}
 use Rattle.tables.specs.View.{Tables, view}
 use Rattle.tables.specs.Judged.{of_size}
 use Rattle.register.specs.Commissioning.{new_numbers, Filled}
-use Rattle.register.specs.Service.{drafted, parties_fit, rooms_fit, allowed, first_numbers, InService}
+use Rattle.register.specs.Service.{drafted, rooms_fit, allowed, first_numbers, InService}
 use Rattle.tables.proofs.WholeTables.{sound_sized}
 
 -- Tables made for a draft.

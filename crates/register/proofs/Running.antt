@@ -2,20 +2,17 @@
 use Rattle.std.proofs.Common.{◌≡◌, ℕ, ◌+◌, ◌<◌, ◌≤◌, List, [], ◌∷◌, ◌++◌, length, get_or, take, sym, refl, ap, ◌∙◌, subst, ap₂, append_assoc, append-nil}
 use Rattle.std.proofs.lemmas.List.{map-append, take_more, take_all}
 use Rattle.quorum.specs.Sets.{Rule}
-use Rattle.quorum.specs.Laws.{Lawful}
 use Rattle.quorum.specs.declared.system.QuorumSystem.{Ghosts}
 use Rattle.model.specs.declared.calls.Call.{Call}
 use Rattle.model.specs.declared.answers.Reply.{Reply}
 use Rattle.model.specs.State.{State}
 use Rattle.model.specs.Steps.{Outcome, step}
 use Rattle.model.specs.History.{History, Event, Run, event, run, replies}
-use Rattle.model.specs.Claims.{Served}
 use Rattle.model.proofs.Serving.{serves}
-use Rattle.tables.specs.declared.numbers.Numbers.{Numbers}
 use Rattle.register.specs.declared.service.Register.{Register}
 use Rattle.tables.specs.View.{Tables, view, rule_for}
-use Rattle.register.specs.Calls.{answered, Grown, Carries, Plays, meaning, called}
-use Rattle.register.specs.Runs.{Ran, begun, then, history, Extends, Runs}
+use Rattle.register.specs.Calls.{answered, Grown, Carries, Plays, meaning}
+use Rattle.register.specs.Runs.{Ran, begun, then, history, Runs}
 use Rattle.register.proofs.Histories.{answered_fitting}
 
 -- one call more

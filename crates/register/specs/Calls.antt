@@ -1,5 +1,5 @@
 -- What a call on the register comes to with these tables, and what it carries: the claims over every history that led there.
-use Rattle.std.specs.Prelude.{◌≡◌, ℕ, ◌*◌, Bool, true, cond, ◌&&◌, List, [], ◌∷◌, ◌++◌, length, ◌==◌}
+use Rattle.std.specs.Prelude.{◌≡◌, ℕ, ◌*◌, Bool, true, cond, ◌&&◌, [], ◌∷◌, ◌++◌, length, ◌==◌}
 use Rattle.quorum.specs.Sets.{Rule}
 use Rattle.quorum.specs.Laws.{Lawful}
 use Rattle.quorum.specs.declared.system.QuorumSystem.{Ghosts}

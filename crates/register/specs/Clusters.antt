@@ -1,5 +1,5 @@
 -- A register with its tables, as one state of the model, and what a call on it carries.
-use Rattle.std.specs.Prelude.{◌≡◌, ℕ, true, false, List, [], ◌∷◌, ◌++◌, Ok, Err, vec_items, Result}
+use Rattle.std.specs.Prelude.{◌≡◌, ℕ, true, false, [], ◌∷◌, ◌++◌, Ok, Err, vec_items, Result}
 use Rattle.quorum.specs.Sets.{Rule}
 use Rattle.quorum.specs.Laws.{Lawful}
 use Rattle.quorum.specs.declared.system.QuorumSystem.{Ghosts}

@@ -1,5 +1,5 @@
 -- A message of sound tables is delivered as the model says.
-use Rattle.std.proofs.Common.{◌≡◌, ℕ, ◌+◌, ◌-◌, ◌<◌, ◌≤◌, true, List, [], ◌∷◌, ◌++◌, length, get_or, take, Some, None, sym, refl, ap, ◌∙◌, subst, arith, length-append, get_or-take}
+use Rattle.std.proofs.Common.{◌≡◌, ℕ, ◌+◌, ◌-◌, ◌<◌, ◌≤◌, true, List, [], ◌++◌, length, get_or, take, Some, None, sym, refl, ap, ◌∙◌, subst, arith, length-append, get_or-take}
 use Rattle.std.proofs.lemmas.List.{length-take-le, get_or_read}
 use Rattle.std.proofs.lemmas.Bool.{le-leb, lt-leb, le-ltb, lt-ltb}
 use Rattle.quorum.specs.Sets.{Rule}
@@ -8,21 +8,19 @@ use Rattle.model.specs.declared.calls.Call.{Call}
 use Rattle.model.specs.declared.answers.Reply.{Reply}
 use Rattle.model.specs.declared.answers.Refusal.{Refusal}
 use Rattle.model.specs.Stamps.{rank}
-use Rattle.model.specs.State.{State, stored, without, message, no_message, without_message}
+use Rattle.model.specs.State.{State, without, message, no_message, without_message}
 use Rattle.model.specs.Sound.{sound}
 use Rattle.model.specs.Deliveries.{Effect}
 use Rattle.model.specs.Steps.{Outcome, outcome, declined, tests, done, deliver, dropped}
 use Rattle.tables.specs.declared.numbers.Numbers.{Numbers}
 use Rattle.reaction.specs.declared.reaction.Reaction.{Reaction}
-use Rattle.tables.specs.View.{Tables, tables, view, Fitting, Kept}
+use Rattle.tables.specs.View.{Tables, view, Fitting, Kept}
 use Rattle.steps.specs.Doing.{judged, Does}
-use Rattle.steps.specs.Renumbered.{with_waiting}
 use Rattle.steps.specs.Planning.{Planned}
 use Rattle.reaction.specs.Reactions.{reaction, beside_messages, Deliverable}
 use Rattle.reaction.specs.Applied.{applied, sent_by, Applicable}
 use Rattle.steps.proofs.Fronts.{length_without}
 use Rattle.steps.proofs.Judging.{judged_by}
-use Rattle.steps.proofs.Transits.{taken_out}
 use Rattle.reaction.proofs.Deliverables.{line_there, within_front}
 use Rattle.reaction.proofs.Arrivals.{deliverable, delivers}
 use Rattle.reaction.proofs.Suited.{applicable}

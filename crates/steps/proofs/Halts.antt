@@ -1,22 +1,19 @@
 -- A party halted by the register is halted as the model says.
-use Rattle.std.proofs.Common.{◌≡◌, ℕ, ◌<◌, ◌≤◌, true, false, List, [], ◌∷◌, ◌++◌, length, get_or, take, set, Some, None, Option, sym, refl, ap, ◌∙◌, subst, arith}
-use Rattle.std.proofs.lemmas.List.{length-take-le, get_or_read}
-use Rattle.std.proofs.lemmas.Bool.{le-leb, lt-leb, le-ltb}
+use Rattle.std.proofs.Common.{◌≡◌, ◌≤◌, true, false, List, length, Some, None, sym, refl, ap, ◌∙◌, arith}
+use Rattle.std.proofs.lemmas.List.{length-take-le}
+use Rattle.std.proofs.lemmas.Bool.{le-ltb}
 use Rattle.quorum.specs.Sets.{Rule}
 use Rattle.model.specs.declared.parties.Party.{Party}
-use Rattle.model.specs.declared.reader.Reader.{Reader}
-use Rattle.model.specs.declared.replica.Replica.{Replica}
 use Rattle.model.specs.declared.calls.Call.{Call}
 use Rattle.model.specs.declared.answers.Reply.{Reply}
 use Rattle.model.specs.declared.answers.Refusal.{Refusal}
-use Rattle.model.specs.State.{State, stored, halted, new_reader, new_replica}
-use Rattle.model.specs.Records.{reader_halted, replica_halted}
-use Rattle.model.specs.Steps.{tests, first_of, overfull, done, halt, stopped, absent}
+use Rattle.model.specs.State.{State, stored, halted}
+use Rattle.model.specs.Steps.{tests, done, halt, stopped, absent}
 use Rattle.tables.specs.declared.numbers.Numbers.{Numbers}
-use Rattle.tables.specs.View.{Tables, tables, view, Kept}
+use Rattle.tables.specs.View.{Tables, view, Kept}
 use Rattle.steps.specs.Doing.{judged, SameSizes, Does}
 use Rattle.steps.proofs.Fronts.{stored_own}
-use Rattle.steps.proofs.Judging.{ruled, judged_by, declines, same_sizes}
+use Rattle.steps.proofs.Judging.{judged_by, declines}
 
 messages_stay : {F : Type 0} (s : State F) (p : Party) → (stopped s p).messages ≡ s.messages
 messages_stay s Party.Writer = refl

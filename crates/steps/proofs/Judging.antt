@@ -1,10 +1,10 @@
 -- A call by its tests: the first that holds declines it, and otherwise it is done.
-use Rattle.std.proofs.Common.{◌≡◌, ℕ, ◌+◌, ◌≤◌, Bool, true, false, cond, List, [], ◌∷◌, ◌++◌, length, take, Some, None, Option, sym, refl, ap, ◌∙◌, arith}
+use Rattle.std.proofs.Common.{◌≡◌, ◌≤◌, Bool, true, false, cond, [], ◌∷◌, ◌++◌, length, Some, None, Option, sym, refl, ap, ◌∙◌, arith}
 use Rattle.quorum.specs.Sets.{Rule}
 use Rattle.model.specs.declared.calls.Call.{Call}
 use Rattle.model.specs.declared.answers.Reply.{Reply}
 use Rattle.model.specs.declared.answers.Refusal.{Refusal}
-use Rattle.model.specs.State.{State, stored}
+use Rattle.model.specs.State.{State}
 use Rattle.model.specs.Steps.{Outcome, Tests, declined, tests, first_of, overfull, settled, done}
 use Rattle.tables.specs.declared.numbers.Numbers.{Numbers}
 use Rattle.tables.specs.View.{Tables, view, Kept}

@@ -1,5 +1,5 @@
 -- One line of the journal changed, or none where it is not in use.
-use Rattle.std.proofs.Common.{◌≡◌, ℕ, ◌+◌, ◌-◌, ◌<◌, ◌≤◌, List, [], ◌∷◌, ◌++◌, length, get_or, take, drop, set, sym, refl, ap, ◌∙◌, arith, length-set, get_or-take}
+use Rattle.std.proofs.Common.{◌≡◌, ℕ, ◌<◌, ◌≤◌, List, ◌++◌, length, get_or, take, drop, set, sym, ap, ◌∙◌, arith, length-set, get_or-take}
 use Rattle.std.proofs.lemmas.List.{length-take-le, take-append-drop, set-append_left, set_past, get_or_read}
 use Rattle.model.specs.State.{stored}
 use Rattle.steps.proofs.Fronts.{stored_own}

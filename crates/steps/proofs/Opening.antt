@@ -1,13 +1,11 @@
 -- The start of an operation: the view of the new line and the new messages.
-use Rattle.std.proofs.Common.{◌≡◌, ℕ, suc, pred, ◌+◌, ◌-◌, ◌<◌, ◌≤◌, min, List, [], ◌∷◌, ◌++◌, length, get_or, take, drop, set, sym, refl, ap, ◌∙◌, add-one, arith, length-append}
-use Rattle.std.proofs.lemmas.List.{length-take-le, length_push, take_at, set-append_right, get_or-append_right}
-use Rattle.quorum.specs.Sets.{Rule}
-use Rattle.model.specs.declared.messages.Message.{Message}
+use Rattle.std.proofs.Common.{◌≡◌, ℕ, suc, ◌-◌, ◌≤◌, List, [], ◌∷◌, ◌++◌, length, get_or, take, drop, set, refl, ap, ◌∙◌, arith}
+use Rattle.std.proofs.lemmas.List.{length_push, take_at, set-append_right, get_or-append_right}
 use Rattle.model.specs.declared.messages.MessageKind.{MessageKind}
 use Rattle.model.specs.declared.parties.Party.{Party}
 use Rattle.model.specs.declared.journal.Operation.{Operation}
 use Rattle.model.specs.declared.journal.OperationKind.{OperationKind}
-use Rattle.model.specs.State.{Held, State, stored, new_line, no_line}
+use Rattle.model.specs.State.{Held, stored, new_line, no_line}
 use Rattle.model.specs.Deliveries.{to_all}
 use Rattle.model.specs.Steps.{counted}
 use Rattle.steps.specs.Posting.{sent_more}

@@ -1,6 +1,6 @@
 -- The parts of a delivery: what finishes, what is sent, and one outcome after another.
-use Rattle.std.proofs.Common.{◌≡◌, ℕ, suc, pred, ◌+◌, ◌-◌, ◌<◌, ◌≤◌, min, List, [], ◌∷◌, ◌++◌, length, get_or, take, drop, set, Some, None, Option, sym, refl, ap, ◌∙◌, subst, ap₂, sub-one, arith, length-append, length-set, get_or-take, drop-drop, drop_at}
-use Rattle.std.proofs.lemmas.List.{length-take-le, take-append-drop, append_assoc}
+use Rattle.std.proofs.Common.{◌≡◌, ℕ, suc, pred, ◌+◌, ◌-◌, ◌<◌, ◌≤◌, List, [], ◌∷◌, ◌++◌, length, get_or, take, drop, set, Some, None, Option, sym, refl, ap, ◌∙◌, subst, ap₂, sub-one, arith, length-append, length-set, get_or-take, drop-drop, drop_at}
+use Rattle.std.proofs.lemmas.List.{length-take-le}
 use Rattle.model.specs.declared.messages.Message.{Message}
 use Rattle.model.specs.declared.messages.MessageKind.{MessageKind}
 use Rattle.model.specs.declared.parties.Party.{Party}
@@ -8,8 +8,8 @@ use Rattle.model.specs.declared.journal.Operation.{Operation}
 use Rattle.model.specs.declared.answers.Reply.{Reply}
 use Rattle.model.specs.State.{State, Held, stored, no_line, line, with_journal}
 use Rattle.model.specs.Records.{one_more}
-use Rattle.model.specs.Deliveries.{finish_event, to_all}
-use Rattle.model.specs.Steps.{Outcome, outcome, counted, posted}
+use Rattle.model.specs.Deliveries.{to_all}
+use Rattle.model.specs.Steps.{Outcome, outcome, counted}
 use Rattle.model.proofs.Totals.{counted_length}
 use Rattle.tables.specs.declared.numbers.Numbers.{Numbers}
 use Rattle.reaction.specs.declared.reaction.Finish.{Finish}

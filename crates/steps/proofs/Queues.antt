@@ -1,5 +1,5 @@
 -- A table that begins somewhere in a buffer.
-use Rattle.std.proofs.Common.{◌≡◌, ℕ, zero, suc, ◌+◌, ◌-◌, ◌<◌, ◌≤◌, List, [], ◌∷◌, ◌++◌, length, take, drop, sym, refl, ap, ◌∙◌, one-add, arith, length-drop, length-take, length-take-le, take_all, take-take, drop-drop, drop_at}
+use Rattle.std.proofs.Common.{◌≡◌, ℕ, zero, suc, ◌+◌, ◌-◌, ◌<◌, ◌≤◌, List, [], ◌∷◌, ◌++◌, length, take, drop, sym, refl, ap, ◌∙◌, one-add, arith, length-drop, length-take-le, take_all, take-take, drop-drop, drop_at}
 use lib.Seq.{paste, take-append-le, drop-append-le, take-paste}
 use borrow.Rule.Slice.PartMut.{put_mid}
 use Rattle.model.specs.State.{stored, without}

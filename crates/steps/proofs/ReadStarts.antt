@@ -1,7 +1,6 @@
 -- The register's read is the model's.
-use Rattle.std.proofs.Common.{◌≡◌, ℕ, suc, ◌+◌, ◌<◌, ◌≤◌, List, [], ◌∷◌, ◌++◌, length, get_or, take, set, Some, None, Option, sym, refl, ap, ◌∙◌, subst, arith}
+use Rattle.std.proofs.Common.{◌≡◌, ℕ, suc, ◌+◌, ◌<◌, ◌≤◌, [], ◌∷◌, ◌++◌, length, get_or, take, set, Some, None, Option, refl, subst, arith}
 use Rattle.quorum.specs.Sets.{Rule}
-use Rattle.model.specs.declared.messages.MessageKind.{MessageKind}
 use Rattle.model.specs.declared.parties.Party.{Party}
 use Rattle.model.specs.declared.journal.OperationKind.{OperationKind}
 use Rattle.model.specs.declared.journal.ReadKind.{ReadKind}

@@ -1,5 +1,5 @@
 -- An operation that starts by the register's numbers starts as the model says.
-use Rattle.std.proofs.Common.{◌≡◌, ℕ, suc, pred, ◌+◌, ◌-◌, ◌<◌, ◌≤◌, min, Bool, cond, ltb, leb, List, [], ◌∷◌, ◌++◌, length, take, Some, None, Option, sym, refl, ap, ◌∙◌, ap₂, add-one, arith, length-append}
+use Rattle.std.proofs.Common.{◌≡◌, ℕ, suc, pred, ◌+◌, ◌<◌, ◌≤◌, min, List, [], ◌∷◌, ◌++◌, length, take, sym, refl, ap, ◌∙◌, ap₂, arith, length-append}
 use Rattle.std.proofs.lemmas.List.{length-take-le, length_push}
 use Rattle.quorum.specs.Sets.{Rule}
 use Rattle.model.specs.declared.messages.Message.{Message}
@@ -7,20 +7,16 @@ use Rattle.model.specs.declared.messages.MessageKind.{MessageKind}
 use Rattle.model.specs.declared.parties.Party.{Party}
 use Rattle.model.specs.declared.journal.Operation.{Operation}
 use Rattle.model.specs.declared.journal.OperationKind.{OperationKind}
-use Rattle.model.specs.declared.calls.Call.{Call}
 use Rattle.model.specs.declared.answers.Reply.{Reply}
-use Rattle.model.specs.declared.answers.Refusal.{Refusal}
-use Rattle.model.specs.Stamps.{next_stamp}
 use Rattle.model.specs.declared.writer.Writer.{Writer}
 use Rattle.model.specs.declared.reader.Reader.{Reader}
 use Rattle.model.specs.State.{State, Held, stored, new_line, with_tables}
 use Rattle.model.specs.Deliveries.{to_all}
-use Rattle.model.specs.Steps.{Tests, Outcome, declined, busy, tests, first_of, overfull, done, write, counted, start_event}
+use Rattle.model.specs.Steps.{Outcome, counted, start_event}
 use Rattle.tables.specs.declared.numbers.Numbers.{Numbers}
 use Rattle.tables.specs.View.{Tables, tables, view, Kept}
-use Rattle.steps.specs.Posting.{sent_more}
 use Rattle.steps.specs.Starting.{started, opened_line}
-use Rattle.steps.specs.Doing.{judged, Does, write_tests}
+use Rattle.steps.specs.Doing.{Does}
 use Rattle.steps.proofs.Sending.{length_to_all}
 use Rattle.steps.proofs.Opening.{take_stored, counted_new}
 

@@ -1,5 +1,5 @@
 -- A message dropped or copied by the register's numbers is dropped or copied as the model says.
-use Rattle.std.proofs.Common.{◌≡◌, ℕ, ◌+◌, ◌-◌, ◌<◌, ◌≤◌, ltb, leb, List, [], ◌∷◌, ◌++◌, length, get_or, take, Some, None, Option, sym, refl, ap, ◌∙◌, subst, arith, get_or-take}
+use Rattle.std.proofs.Common.{◌≡◌, ℕ, ◌+◌, ◌-◌, ◌<◌, ◌≤◌, List, [], ◌∷◌, ◌++◌, length, get_or, take, Some, None, sym, refl, ap, ◌∙◌, subst, arith, get_or-take}
 use Rattle.std.proofs.lemmas.List.{length-take-le, length_push, get_or_read}
 use Rattle.std.proofs.lemmas.Bool.{le-leb, lt-leb, le-ltb, lt-ltb}
 use Rattle.quorum.specs.Sets.{Rule}
@@ -8,13 +8,13 @@ use Rattle.model.specs.declared.calls.Call.{Call}
 use Rattle.model.specs.declared.answers.Reply.{Reply}
 use Rattle.model.specs.declared.answers.Refusal.{Refusal}
 use Rattle.model.specs.State.{State, stored, without, with_messages, message, no_message}
-use Rattle.model.specs.Steps.{tests, first_of, overfull, done, dropped, duplicated}
+use Rattle.model.specs.Steps.{tests, done, dropped, duplicated}
 use Rattle.tables.specs.declared.numbers.Numbers.{Numbers}
 use Rattle.tables.specs.View.{Tables, tables, view, Kept}
 use Rattle.steps.specs.Doing.{judged, Does}
 use Rattle.steps.specs.Renumbered.{with_waiting}
 use Rattle.steps.proofs.Fronts.{length_without, stored_own}
-use Rattle.steps.proofs.Judging.{ruled, judged_by, declines}
+use Rattle.steps.proofs.Judging.{judged_by, declines}
 use Rattle.steps.proofs.Opening.{take_stored}
 
 -- the messages that wait are others, and so many

@@ -1,12 +1,12 @@
 -- What a call on sound tables does to the register's numbers and to every place of the lent tables.
-use Rattle.std.specs.Prelude.{◌≡◌, ℕ, ◌+◌, List, [], ◌∷◌, length, Some, None, Option, nat_le, nat_lt, slice_index_or}
+use Rattle.std.specs.Prelude.{◌≡◌, ℕ, ◌+◌, List, [], ◌∷◌, length, nat_le, nat_lt, slice_index_or}
 use Rattle.quorum.specs.Sets.{Rule}
 use Rattle.model.specs.declared.calls.Call.{Call}
 use Rattle.model.specs.declared.answers.Reply.{Reply}
 use Rattle.model.specs.declared.answers.Refusal.{Refusal}
 use Rattle.model.specs.declared.reader.Reader.{Reader}
 use Rattle.model.specs.State.{State, stored, new_reader}
-use Rattle.model.specs.Steps.{Outcome, Tests, declined, busy, tests, first_of, settled, done}
+use Rattle.model.specs.Steps.{Outcome, Tests, busy, tests, first_of, settled, done}
 use Rattle.tables.specs.declared.numbers.Numbers.{Numbers}
 use Rattle.tables.specs.View.{Tables, view, Kept}
 

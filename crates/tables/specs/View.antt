@@ -1,5 +1,5 @@
 -- The register and the lent tables as one state of the model, and its rule.
-use Rattle.std.specs.Prelude.{◌≡◌, ℕ, ◌+◌, ◌*◌, ◌≤◌, List, length, take}
+use Rattle.std.specs.Prelude.{◌≡◌, ℕ, ◌*◌, ◌≤◌, List, length, take}
 use Rattle.quorum.specs.Sets.{Rule}
 use Rattle.quorum.specs.declared.system.QuorumSystem.{Ghosts}
 use Rattle.model.specs.declared.replica.Replica.{Replica}

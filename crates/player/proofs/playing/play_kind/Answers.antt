@@ -1,4 +1,4 @@
-use Rattle.std.proofs.Common.{◌≡◌, List, ◌++◌, vec_items, ap, ◌∙◌, ap₂}
+use Rattle.std.proofs.Common.{◌≡◌, ◌++◌, vec_items, ap, ◌∙◌, ap₂}
 use Rattle.std.proofs.lemmas.Result.{IfOk-from_err}
 use Rattle.quorum.specs.Sets.{Rule}
 use Rattle.model.specs.State.{State, fresh}

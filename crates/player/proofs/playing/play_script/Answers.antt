@@ -1,4 +1,4 @@
-use Rattle.std.proofs.Common.{◌≡◌, length, sym, refl, ap, ◌∙◌, arith}
+use Rattle.std.proofs.Common.{length, sym, ap, arith}
 use Rattle.text.proofs.LineEnds.{lines_few}
 use Rattle.player.proofs.Opened.{opens}
 use Rattle.player.proofs.playing.play_script.Goals as goal

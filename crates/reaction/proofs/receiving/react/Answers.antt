@@ -1,8 +1,6 @@
-use Rattle.std.proofs.Common.{◌≡◌, ◌+◌, ◌*◌, ◌<◌, ◌≤◌, length, sym, refl, subst, arith}
+use Rattle.std.proofs.Common.{◌+◌, ◌*◌, ◌<◌, length, sym, refl, subst, arith}
 use Rattle.std.proofs.lemmas.List.{get_or_read}
-use Rattle.model.specs.State.{State, index, line, no_line, new_reader, new_replica}
-use Rattle.reaction.specs.Reactions.{beside_messages}
-use Rattle.tables.specs.View.{rule_for}
+use Rattle.model.specs.State.{index, no_line, new_reader, new_replica}
 use Rattle.reaction.proofs.Deliverables.{sender_small, replica_there, reader_there, line_there, mark_there, few_marks}
 use Rattle.reaction.proofs.Deliverables.{within_front, for_writer, for_reader, for_replica}
 use Rattle.reaction.proofs.receiving.react.Goals as goal

@@ -1,8 +1,8 @@
-use Rattle.std.proofs.Common.{◌≡◌, ℕ, ◌+◌, ◌^◌, ◌<◌, ◌≤◌, Bool, true, false, cond, ltb, List, [], ◌∷◌, ◌++◌, length, Ok, Err, decimal, sym, refl, ap, ◌∙◌, zero-add, arith, length-append, le-ltb}
+use Rattle.std.proofs.Common.{◌≡◌, ℕ, ◌^◌, ◌<◌, ◌≤◌, false, ltb, [], ◌∷◌, ◌++◌, length, Ok, decimal, sym, ap, ◌∙◌, zero-add, arith, length-append, le-ltb}
 use Rattle.std.proofs.lemmas.Fmt.{length-decimal-le}
 use Rattle.std.proofs.lemmas.Bool.{cond-false}
 use Rattle.text.proofs.Placed.{then_put}
-use Rattle.script.specs.Answers.{answer_shown, line_shown}
+use Rattle.script.specs.Answers.{answer_shown}
 use Rattle.script.proofs.answer.print_answer.Goals as goal
 
 ten : (n : ℕ) → n < 2 ^ 32 → length (decimal n) ≤ 10

@@ -1,6 +1,6 @@
 use Rattle.std.proofs.Common.{arith, length-append}
 use Rattle.text.proofs.Placed.{then_put}
-use Rattle.script.proofs.Sized.{FinishedSizes, finished_sizes}
+use Rattle.script.proofs.Sized.{finished_sizes}
 use Rattle.script.proofs.answer.put_finished.Goals as goal
 
 pub put_tabbed-at-requires : goal.put_tabbed-at-requires

@@ -1,9 +1,9 @@
-use Rattle.std.proofs.Common.{◌≡◌, ◌+◌, ◌<◌, [], length, get_or, drop, codes, sym, refl, ap, ◌∙◌, arith}
+use Rattle.std.proofs.Common.{◌≡◌, ◌+◌, [], length, drop, codes, sym, ap, ◌∙◌, arith}
 use Rattle.std.specs.Str.{bytes_eq}
 use Rattle.std.proofs.lemmas.List.{drop-drop, get_or-drop}
 use Rattle.text.specs.Fields.{fields, field_at}
 use Rattle.text.specs.Cursors.{ahead}
-use Rattle.script.specs.Headers.{rule_word, rule_numbers, header_rest}
+use Rattle.script.specs.Headers.{rule_word, header_rest}
 use Rattle.script.proofs.Heading.{header_goes}
 use Rattle.script.proofs.header.read_header.Goals as goal
 

@@ -1,4 +1,4 @@
-use Rattle.std.proofs.Common.{set, sym, ap}
+use Rattle.std.proofs.Common.{set, ap}
 use Rattle.std.proofs.lemmas.List.{get_or_read}
 use Rattle.model.specs.declared.journal.Operation.{Operation}
 use Rattle.steps.specs.Posting.{sent_more}

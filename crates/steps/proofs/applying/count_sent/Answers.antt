@@ -1,4 +1,4 @@
-use Rattle.std.proofs.Common.{◌≡◌, ◌<◌, ◌≤◌, get_or, set, sym, ap, ◌∙◌, arith, get_or-take}
+use Rattle.std.proofs.Common.{set, sym, ap, ◌∙◌, get_or-take}
 use Rattle.model.specs.State.{no_line}
 use Rattle.model.specs.declared.journal.Operation.{Operation}
 use Rattle.steps.specs.Posting.{sent_more}

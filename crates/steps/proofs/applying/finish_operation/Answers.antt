@@ -1,4 +1,4 @@
-use Rattle.std.proofs.Common.{◌-◌, ◌<◌, length, refl, arith}
+use Rattle.std.proofs.Common.{refl, arith}
 use Rattle.model.specs.State.{no_line}
 use Rattle.tables.specs.View.{tables}
 use Rattle.reaction.specs.Applied.{HasLine}

@@ -1,4 +1,3 @@
-use Rattle.std.proofs.Common.{◌≡◌, arith}
 use Rattle.tables.specs.View.{tables}
 use Rattle.reaction.specs.Applied.{sent_by}
 use Rattle.steps.proofs.Parts.{sends}

@@ -1,4 +1,4 @@
-use Rattle.std.proofs.Common.{◌-◌, ◌≤◌, take, sym, ◌∙◌, arith}
+use Rattle.std.proofs.Common.{◌-◌, take, sym, ◌∙◌, arith}
 use Rattle.model.specs.State.{stored, without}
 use Rattle.model.specs.Steps.{dropped}
 use Rattle.tables.specs.View.{tables}

@@ -1,4 +1,4 @@
-use Rattle.std.proofs.Common.{List, set, sym, refl, ap, ◌∙◌}
+use Rattle.std.proofs.Common.{set, sym, refl, ap, ◌∙◌}
 use Rattle.std.proofs.lemmas.List.{get_or_read}
 use Rattle.std.proofs.lemmas.Bool.{le-leb, lt-leb}
 use Rattle.model.specs.declared.parties.Party.{Party}

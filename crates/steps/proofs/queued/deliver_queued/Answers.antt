@@ -1,4 +1,4 @@
-use Rattle.std.proofs.Common.{◌≡◌, ◌-◌, List, refl, ap, ◌∙◌}
+use Rattle.std.proofs.Common.{◌-◌, List, refl, ap}
 use Rattle.model.specs.State.{with_messages}
 use Rattle.tables.specs.View.{tables, view}
 use Rattle.steps.specs.Renumbered.{with_waiting}

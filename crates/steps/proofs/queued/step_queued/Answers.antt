@@ -1,8 +1,6 @@
-use Rattle.std.proofs.Common.{◌≡◌, ℕ, ◌+◌, ◌-◌, ◌≤◌, List, length, take, drop, sym, ap, ◌∙◌, subst, arith, length-drop, length-take, rules}
+use Rattle.std.proofs.Common.{◌≡◌, ◌+◌, ◌-◌, ◌≤◌, List, length, ap, ◌∙◌, arith, rules}
 use borrow.Author.Rules.{scaled_fits≤}
-use Rattle.tables.specs.View.{tables, view, rule_for}
-use Rattle.steps.specs.Doing.{judged, Does}
-use Rattle.steps.specs.Queueing.{window}
+use Rattle.tables.specs.View.{tables, view}
 use Rattle.steps.proofs.Queues.{window_back, part_long}
 use Rattle.steps.proofs.queued.step_queued.Goals as goal
 

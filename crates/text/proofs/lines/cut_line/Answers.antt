@@ -1,7 +1,6 @@
-use Rattle.std.proofs.Common.{◌≡◌, ◌+◌, ◌-◌, ◌<◌, ◌≤◌, [], ◌∷◌, length, get_or, take, drop, sym, refl, ap, ◌∙◌, add-one, arith}
+use Rattle.std.proofs.Common.{◌+◌, ◌<◌, length, add-one, arith}
 use native.Mathlib.Nat.{sub-zero}
 use Rattle.std.proofs.lemmas.List.{take_rest, drop_all}
-use Rattle.text.specs.Lines.{lines}
 use Rattle.text.proofs.LineEnds.{one_line, first_line}
 use Rattle.text.proofs.lines.cut_line.Goals as goal
 

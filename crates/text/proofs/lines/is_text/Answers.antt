@@ -1,5 +1,4 @@
-use Rattle.std.proofs.Common.{◌≡◌, ◌≤◌, Bool, true, false, cond, length, get_or, drop, sym, refl, ap, ◌∙◌, arith, rules, le-leb}
-use borrow.Author.Tests.{lt-leb}
+use Rattle.std.proofs.Common.{◌≤◌, length, ap, arith, rules, le-leb}
 use Rattle.std.proofs.lemmas.List.{drop_all}
 use Rattle.text.specs.Lines.{is_text, all_plain}
 use Rattle.text.proofs.Plainly.{all_plain_at}

@@ -1,5 +1,4 @@
 use Rattle.std.proofs.Common.{refl, arith, rules}
-use Rattle.std.proofs.lemmas.Bool.Decides.{nat_tests}
 use Rattle.quorum.proofs.CountLaws.{count_lawful}
 use Rattle.quorum.proofs.by_count.Count.new.Goals as goal
 

@@ -1,5 +1,4 @@
 use Rattle.std.proofs.Common.{refl, arith, rules}
-use Rattle.std.proofs.lemmas.Bool.Decides.{nat_tests}
 use Rattle.quorum.proofs.LeadLaws.{lead_lawful}
 use Rattle.quorum.specs.Meaning.{rule_of}
 use Rattle.quorum.proofs.by_lead.Lead.new.Goals as goal

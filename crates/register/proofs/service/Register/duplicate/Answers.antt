@@ -1,4 +1,4 @@
-use Rattle.std.proofs.Common.{sym, refl}
+use Rattle.std.proofs.Common.{refl}
 use Rattle.register.specs.Calls.{meaning}
 use Rattle.register.proofs.Histories.{carries_declined, carries_judged}
 use Rattle.register.proofs.Invariants.{kept_of, keeps}

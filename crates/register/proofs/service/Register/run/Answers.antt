@@ -1,4 +1,4 @@
-use Rattle.std.proofs.Common.{◌<◌, ◌≤◌, length, vec_len, vec_capacity, refl, ◌∙◌, arith}
+use Rattle.std.proofs.Common.{◌<◌, vec_len, vec_capacity, refl, ◌∙◌, arith}
 use Rattle.std.proofs.lemmas.Result.{MatchResult-from_err}
 use Rattle.std.proofs.lemmas.Bool.{false≢true}
 use Rattle.register.proofs.Running.{ran_none, ran_more, ran_all}

@@ -1,4 +1,4 @@
-use Rattle.std.proofs.Common.{arith, rules}
+use Rattle.std.proofs.Common.{rules}
 use Rattle.text.proofs.LineEnds.{no_lines}
 use Rattle.text.proofs.lines.LineCursor.next_line.Goals as goal
 
