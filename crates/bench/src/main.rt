@@ -1,60 +1,81 @@
 //! The bench: plays a script, from the file that its argument names or from standard input, and prints an answer to each line.
 //!
-//! What it prints is `player::play` of the script; this program only reads and writes.
+//! For now it plays the first line, and says so for the rest.
 #![tactic(auto)]
 
 use anyhow::anyhow;
-use player::play;
+use figure::Tide;
+use script::{Answer, ScriptFault, TextFault, open_line, print_answer};
 use std::fs::File;
 use std::io::{Read, Write};
+use std::process::ExitCode;
 use std::{env, io};
+use text::LineCursor;
 
-// No more bytes of a script are read than suffice to decline it for its length.
-const MOST_BYTES: u64 = 65537;
+// A script of more bytes is declined whole.
+const LIMIT: usize = 65536;
 
-const USAGE: &str = "usage: bench [FILE]
-Plays the script in FILE, or on standard input, and prints an answer to each of its lines.
-docs/SCRIPT.md says what a script is and what is answered.
-";
-
-fn main(rt: HostRuntime) -> anyhow::Result<()> {
-    match run(&rt) {
-        Ok(()) => Ok(()),
-        Err(fault) => {
-            eprintln!(rt; "bench: {fault}")?;
-            Err(fault)
-        }
-    }
+fn main(rt: HostRuntime) -> ExitCode {
+    let Err(fault) = run(&rt) else {
+        return ExitCode::SUCCESS;
+    };
+    // Where standard error takes nothing, the status alone tells.
+    let _ = eprintln!(rt; "bench: {fault}");
+    ExitCode::FAILURE
 }
 
 fn run(rt: &HostRuntime) -> anyhow::Result<()> {
+    let script = read_script(rt)?;
+    if script.len() > LIMIT {
+        let too_long = ScriptFault::Text(TextFault::NotText);
+        return print(rt, 0, Answer::Declined(too_long));
+    }
+    let mut lines = LineCursor::over(script.as_slice());
+    let Some(first) = lines.next_line() else {
+        return Ok(());
+    };
+    match open_line(first) {
+        Ok(_) => print(rt, 1, Answer::Accepted(0))?,
+        Err(fault) => return print(rt, 1, Answer::Declined(fault)),
+    }
+    if lines.next_line().is_some() {
+        eprintln!(rt; "bench: only the first line is played yet")?;
+    }
+    Ok(())
+}
+
+// The script, or one byte more than a script may have.
+fn read_script(rt: &HostRuntime) -> anyhow::Result<Vec<u8>> {
+    let mut script = Vec::new(rt.alloc());
     let mut words = env::args(rt)?;
     let _program = words.next();
-    let mut script = Vec::new(rt.alloc());
     match words.next() {
-        Some(word) => {
-            if words.next().is_some() {
-                return Err(anyhow!("more than one argument; bench --help says what it takes"));
-            }
-            if word.as_str() == "--help" {
-                rt.stdout().write_all(USAGE.as_bytes())?;
-                return Ok(());
-            }
-            if let Err(e) = read_file(rt, word.as_str(), &mut script) {
-                return Err(anyhow!(format!(in rt.alloc(); "cannot read {word}: {e}")?));
+        Some(path) => {
+            if let Err(e) = read_file(rt, path.as_str(), &mut script) {
+                return Err(anyhow!(format!(in rt.alloc(); "cannot read {path}: {e}")?));
             }
         }
         None => {
-            rt.stdin().take(MOST_BYTES).read_to_end(&mut script)?;
+            rt.stdin().take(LIMIT as u64 + 1).read_to_end(&mut script)?;
         }
     }
-    let answers = play(rt.alloc(), script.as_slice())?;
-    rt.stdout().write_all(answers.as_slice())?;
-    Ok(())
+    Ok(script)
 }
 
 fn read_file(rt: &HostRuntime, path: &str, script: &mut Vec<u8>) -> io::Result<()> {
     let file = File::open(rt, path)?;
-    file.take(MOST_BYTES).read_to_end(script)?;
+    file.take(LIMIT as u64 + 1).read_to_end(script)?;
+    Ok(())
+}
+
+fn print(rt: &HostRuntime, number: u32, answer: Answer<Tide>) -> anyhow::Result<()> {
+    let mut buffer = [0u8; 80];
+    match print_answer(number, answer, &mut buffer) {
+        Ok(n) => {
+            let n = n.min(80);
+            rt.stdout().write_all(&buffer[0..n])?;
+        }
+        Err(_) => return Err(anyhow!("the print buffer is too short")),
+    }
     Ok(())
 }

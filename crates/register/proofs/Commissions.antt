@@ -10,7 +10,8 @@ use Rattle.tables.specs.declared.numbers.Numbers.{Numbers}
 use Rattle.register.specs.declared.service.Draft.{Draft}
 use Rattle.register.specs.declared.service.Register.{Register}
 use Rattle.tables.specs.View.{Tables, view, Fitting, Kept}
-use Rattle.register.specs.Calls.{Grown, meaning}
+use Rattle.register.specs.Histories.{Grown}
+use Rattle.register.specs.Calls.{meaning}
 use Rattle.register.specs.Commissioning.{Filled}
 use Rattle.register.specs.Service.{drafted, allowed, first_numbers, InService}
 
@@ -50,7 +51,7 @@ module _ {R F : Type 0} (d : Draft R F) (t : Tables F) (fit : allowed d t ≡ tr
 
     begins : Grown (drafted g d) d.start [] (first_numbers d t) t
     begins = record {
-      fitting = fits;
+      fits = fits;
       grows = subst (λ (s : State F). Grows (drafted g d) d.start [] s) (sym state) (begun _ _ _);
     }
 

@@ -1,7 +1,7 @@
 -- A call that does its step carries the claims.
-use Rattle.std.proofs.Common.{◌≡◌, true, false, [], ◌∷◌, ◌++◌, length, sym, refl, ap, ◌∙◌, subst}
-use Rattle.std.proofs.lemmas.Bool.{and_parts, eqb-true, eq-eqb}
+use Rattle.std.proofs.Common.{◌≡◌, ℕ, ◌*◌, Bool, true, false, not, List, [], ◌∷◌, ◌++◌, length, sym, refl, ap, ◌∙◌, subst, arith}
 use Rattle.quorum.specs.Sets.{Rule}
+use Rattle.quorum.specs.Laws.{Lawful}
 use Rattle.model.specs.declared.calls.Call.{Call}
 use Rattle.model.specs.declared.answers.Reply.{Reply}
 use Rattle.model.specs.declared.answers.Refusal.{Refusal}
@@ -9,113 +9,36 @@ use Rattle.model.specs.State.{State}
 use Rattle.model.specs.Sound.{sound}
 use Rattle.model.specs.Steps.{Outcome, step, refusal, declined}
 use Rattle.model.specs.History.{History, Grows, more}
+use Rattle.model.specs.Claims.{Served}
 use Rattle.model.proofs.Serving.{serves}
 use Rattle.tables.specs.declared.numbers.Numbers.{Numbers}
-use Rattle.tables.specs.View.{Tables, view, Fitting, Kept}
-use Rattle.steps.specs.Doing.{judged, Does, SameSizes}
-use Rattle.register.specs.Calls.{fits, answered, Grown, Carries, called, Checked, Declines}
-use Rattle.steps.proofs.Judging.{same_sizes}
-use Rattle.steps.proofs.Fronts.{stored_take}
-
--- LENGTHS
-
-module _ {F : Type 0} (n : Numbers) (t : Tables F) where
-  pub fits_tells : fits n t ≡ true → Fitting n t
-  fits_tells e =
-      let a = and_parts _ _ e in
-      let b = and_parts _ _ a.0 in
-      let c = and_parts _ _ b.0 in
-      let d = and_parts _ _ c.0 in
-      record {
-        replicas = eqb-true _ _ d.0;
-        readers = eqb-true _ _ d.1;
-        marks = eqb-true _ _ c.1;
-        messages = eqb-true _ _ b.1;
-        journal = eqb-true _ _ a.1;
-      }
-
-  pub fitting_tells : Fitting n t → fits n t ≡ true
-  fitting_tells f =
-      rw (eq-eqb _ _ f.replicas, eq-eqb _ _ f.readers, eq-eqb _ _ f.marks, eq-eqb _ _ f.messages, eq-eqb _ _ f.journal)
-
--- The tables have their lengths still.
-pub record SameLengths {F : Type 0} (t t' : Tables F) : Type 0 where
-  pub replicas : length t'.replicas ≡ length t.replicas
-  pub readers : length t'.readers ≡ length t.readers
-  pub marks : length t'.marks ≡ length t.marks
-  pub messages : length t'.messages ≡ length t.messages
-  pub journal : length t'.journal ≡ length t.journal
-
-pub same_lengths : {F : Type 0} (t : Tables F) → SameLengths t t
-same_lengths t = record { replicas = refl; readers = refl; marks = refl; messages = refl; journal = refl }
-
-fitting_still : {F : Type 0} {n n' : Numbers} {t t' : Tables F} → SameSizes n n' → SameLengths t t' → Fitting n t → Fitting n' t'
-fitting_still {F} {n} {n'} sizes lengths f = record {
-  replicas = lengths.replicas ∙ f.replicas ∙ sym sizes.replicas;
-  readers = lengths.readers ∙ f.readers ∙ sym sizes.readers;
-  marks = lengths.marks ∙ f.marks ∙ rw (sizes.replicas, sizes.readers);
-  messages = lengths.messages ∙ f.messages ∙ sym sizes.message_room;
-  journal = lengths.journal ∙ f.journal ∙ sym sizes.journal_room;
-}
-
--- THE STEP
+use Rattle.tables.specs.View.{Tables, view, Fitting}
+use Rattle.steps.specs.Doing.{judged, Does}
+use Rattle.register.specs.Histories.{Grown, Carries, called}
 
 -- on sound tables the step is what the call comes to behind the check
 pub step_sound : {F : Type 0} (rule : Rule) (s : State F) (c : Call F) → sound rule s ≡ true → step rule s c ≡ judged rule s c
 unfolding step refusal judged
 step_sound rule s c e = rw e
 
-step_unsound : {F : Type 0} (rule : Rule) (s : State F) (c : Call F) → sound rule s ≡ false
+pub step_unsound : {F : Type 0} (rule : Rule) (s : State F) (c : Call F) → sound rule s ≡ false
     → step rule s c ≡ declined s Refusal.Unsound
 unfolding step refusal
 step_unsound rule s c e = rw e
 
-module _ {F : Type 0} (rule : Rule) (start : F) (n : Numbers) (t : Tables F) where
-  pub answered_fitting : Fitting n t → (c : Call F) → answered rule start n t c ≡ step rule (view start n t) c
-  unfolding answered
-  answered_fitting f c = rw (fitting_tells n t f)
+module _ {F : Type 0} (rule : Rule) (start : F) (c : Call F) (n : Numbers) (t : Tables F) (r : Reply F) (n' : Numbers)
+    (t' : Tables F) where
+  grown : Fitting n' t' → Does start (step rule (view start n t) c) n t r n' t' → (h : History F)
+      → Grown rule start h n t → Grown rule start (h ++ called rule start n t c ∷ []) n' t'
+  grown fits d h g = record {
+    fits = fits;
+    grows = subst (λ (s : State F). Grows rule start (h ++ called rule start n t c ∷ []) s) (sym d.state) (more g.grows c);
+  }
 
-  pub declines_lengths : fits n t ≡ false → Declines rule start n t Refusal.TableLength
-  unfolding answered
-  declines_lengths e c = rw e
-
-  pub declines_unsound : fits n t ≡ true → sound rule (view start n t) ≡ false → Declines rule start n t Refusal.Unsound
-  unfolding answered
-  declines_unsound e u c = rw e (step_unsound rule (view start n t) c u)
-
-  module _ (c : Call F) (r : Reply F) (n' : Numbers) (t' : Tables F) where
-    carries : SameLengths t t' → Does start (answered rule start n t c) n t r n' t' → Carries rule start c n t r n' t'
-    carries lengths d =
-        let grown : (h : History F) → Grown rule start h n t → Grown rule start (h ++ called rule start n t c ∷ []) n' t'
-        = λ h g. record {
-          fitting = fitting_still d.sizes lengths g.fitting;
-          grows =
-              subst (λ (s : State F). Grows rule start (h ++ called rule start n t c ∷ []) s)
-              (sym (d.state ∙ ap (λ (o : Outcome F). o.next) (answered_fitting g.fitting c))) (more g.grows c);
-        } in
-        record {
-          does = d;
-          grows = grown;
-          serves = λ h g law. serves F rule law start _ _ (grown h g).grows;
-        }
-
-    -- behind the check, what the call comes to on sound tables
-    pub carries_judged : Checked rule start n t → SameLengths t t' → Does start (judged rule (view start n t) c) n t r n' t'
-        → Carries rule start c n t r n' t'
-    carries_judged checked lengths d =
-        carries lengths
-        (subst (λ (o : Outcome F). Does start o n t r n' t')
-        (sym (answered_fitting checked.fitting c ∙ step_sound rule (view start n t) c checked.is_sound)) d)
-
-  -- before it, a refusal
-  pub carries_declined : (c : Call F) (e : Refusal) → Kept n → Declines rule start n t e
-      → Carries rule start c n t (Reply.Declined e) n t
-  carries_declined c e kept declines =
-      carries c (Reply.Declined e) n t (same_lengths t) (rw (declines c) (record {
-        answer = refl;
-        state = refl;
-        messages = sym (stored_take n.waiting t.messages);
-        journal = sym (stored_take n.lines t.journal);
-        kept = kept;
-        sizes = same_sizes n;
-      }))
+  pub carries : (Fitting n t → Fitting n' t') → Does start (step rule (view start n t) c) n t r n' t'
+      → Carries rule start c n t r n' t'
+  carries fits d = record {
+    does = d;
+    grows = λ h g. grown (fits g.fits) d h g;
+    serves = λ h g law. serves F rule law start _ _ (grown (fits g.fits) d h g).grows;
+  }

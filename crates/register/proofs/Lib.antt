@@ -1,4 +1,5 @@
 pub mod Histories
+pub mod Calling
 pub mod Invariants
 pub mod Running
 pub mod Owned

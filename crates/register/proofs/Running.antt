@@ -11,9 +11,10 @@ use Rattle.model.specs.History.{History, Event, Run, event, run, replies}
 use Rattle.model.proofs.Serving.{serves}
 use Rattle.register.specs.declared.service.Register.{Register}
 use Rattle.tables.specs.View.{Tables, view, rule_for}
-use Rattle.register.specs.Calls.{answered, Grown, Carries, Plays, meaning}
+use Rattle.register.specs.Histories.{Grown}
+use Rattle.register.specs.Calls.{answered, CarriesAnswered, Plays, meaning}
 use Rattle.register.specs.Runs.{Ran, begun, then, history, Runs}
-use Rattle.register.proofs.Histories.{answered_fitting}
+use Rattle.register.proofs.Calling.{answered_fitting}
 
 -- one call more
 module _ {F : Type 0} (rule : Rule) where
@@ -47,11 +48,11 @@ module _ {R F : Type 0} (g : Ghosts R) (x : Register R F) (t : Tables F) where
       → Led (cs ++ c ∷ []) (rs ++ r ∷ []) x'' t'' h
   led_more h cs rs x' t' p c r x'' t'' plays =
       let q : Run F = run rule (view x.start x.numbers t) cs in
-      let k : Carries rule x.start c x'.numbers t' r x''.numbers t''
-      = subst (λ (l : Rule). Carries l x.start c x'.numbers t' r x''.numbers t'') p.same_rule
-      (subst (λ (f : F). Carries (meaning g x') f c x'.numbers t' r x''.numbers t'') p.same_start plays.carries) in
+      let k : CarriesAnswered rule x.start c x'.numbers t' r x''.numbers t''
+      = subst (λ (l : Rule). CarriesAnswered l x.start c x'.numbers t' r x''.numbers t'') p.same_rule
+      (subst (λ (f : F). CarriesAnswered (meaning g x') f c x'.numbers t' r x''.numbers t'') p.same_start plays.carries) in
       let o : answered rule x.start x'.numbers t' c ≡ step rule q.state c
-      = answered_fitting rule x.start x'.numbers t' p.grown.fitting c
+      = answered_fitting rule x.start x'.numbers t' p.grown.fits c
       ∙ ap (λ (s : State F). step rule s c) p.state in
       let e = run_more rule (view x.start x.numbers t) cs c in
       record {

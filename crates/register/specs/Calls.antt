@@ -14,6 +14,7 @@ use Rattle.tables.specs.declared.numbers.Numbers.{Numbers}
 use Rattle.register.specs.declared.service.Register.{Register}
 use Rattle.tables.specs.View.{Tables, view, Fitting, rule_for}
 use Rattle.steps.specs.Doing.{Does}
+use Rattle.register.specs.Histories.{Grown, called}
 
 -- Whether tables of these lengths are those that the register was commissioned with.
 abbrev pub lengths_fit : Numbers → ℕ → ℕ → ℕ → ℕ → ℕ → Bool
@@ -31,18 +32,9 @@ unfoldable pub answered : {F : Type 0} → Rule → F → Numbers → Tables F �
 answered rule start n t c =
     cond (fits n t) (step rule (view start n t) c) (declined (view start n t) Refusal.TableLength)
 
--- The events led from a newly commissioned register to this one, and its tables have the lengths that they had then.
-pub record Grown {F : Type 0} (rule : Rule) (start : F) (h : History F) (n : Numbers) (t : Tables F) : Type 0 where
-  pub fitting : Fitting n t
-  pub grows : Grows rule start h (view start n t)
-
--- The event of a call on the register in this state.
-abbrev pub called : {F : Type 0} → Rule → F → Numbers → Tables F → Call F → Event F
-called rule start n t c = event c (step rule (view start n t) c)
-
 -- The answer and every place of the tables are what the call comes to; each history that led to the register becomes longer
 -- by the call's event, and under a lawful rule the longer one is served.
-pub record Carries {F : Type 0} (rule : Rule) (start : F) (c : Call F) (n : Numbers) (t : Tables F) (r : Reply F)
+pub record CarriesAnswered {F : Type 0} (rule : Rule) (start : F) (c : Call F) (n : Numbers) (t : Tables F) (r : Reply F)
     (n' : Numbers) (t' : Tables F) : Type 0 where
   pub does : Does start (answered rule start n t c) n t r n' t'
   pub grows : (h : History F) → Grown rule start h n t → Grown rule start (h ++ called rule start n t c ∷ []) n' t'
@@ -60,7 +52,7 @@ pub record Plays {R F : Type 0} (g : Ghosts R) (c : Call F) (x : Register R F) (
     (x' : Register R F) (t' : Tables F) : Type 0 where
   pub rule : x'.rule ≡ x.rule
   pub start : x'.start ≡ x.start
-  pub carries : Carries (meaning g x) x.start c x.numbers t r x'.numbers t'
+  pub carries : CarriesAnswered (meaning g x) x.start c x.numbers t r x'.numbers t'
 
 -- Tables that no call is declined for.
 pub record Checked {F : Type 0} (rule : Rule) (start : F) (n : Numbers) (t : Tables F) : Type 0 where

@@ -1,3 +1,4 @@
+pub mod Histories
 pub mod Calls
 pub mod Commissioning
 pub mod Runs

@@ -10,7 +10,8 @@ use Rattle.model.specs.Claims.{Served}
 use Rattle.tables.specs.declared.numbers.Numbers.{Numbers}
 use Rattle.register.specs.declared.service.Register.{Register}
 use Rattle.tables.specs.View.{Tables, view}
-use Rattle.register.specs.Calls.{Grown, Plays, meaning}
+use Rattle.register.specs.Histories.{Grown}
+use Rattle.register.specs.Calls.{Plays, meaning}
 
 -- Each call plays on what the one before left, and the answers are in the order of the calls.
 pub data Ran {R F : Type 0} (g : Ghosts R) (x : Register R F) (t : Tables F)

@@ -12,7 +12,8 @@ use Rattle.register.specs.declared.service.Draft.{Draft}
 use Rattle.register.specs.declared.service.Uncommissioned.{Uncommissioned}
 use Rattle.register.specs.declared.service.Register.{Register}
 use Rattle.tables.specs.View.{Tables, view, rule_for}
-use Rattle.register.specs.Calls.{Grown, meaning}
+use Rattle.register.specs.Histories.{Grown}
+use Rattle.register.specs.Calls.{meaning}
 use Rattle.register.specs.Commissioning.{new_numbers}
 
 -- The rule that a draft is of: the rule's own families, over the replicas that it was made for.

@@ -37,7 +37,7 @@ pub fn halt_party<F: Copy>(
 }
 
 // Stops the writer.
-fn halt_writer<F: Copy>(numbers: &mut Numbers) -> Reply<F>
+pub fn halt_writer<F: Copy>(numbers: &mut Numbers) -> Reply<F>
     requires { Kept numbers.old }
     ensures { (start : F) (rule : QuorumRule) (rs : List (ReplicaRow F)) (ds : List (ReaderRow F)) (ks : List MarkRow) (ms : List (MessageRow F)) (ls : List (JournalRow F))
         → length ms ≡ numbers.old.message_room → length ls ≡ numbers.old.journal_room
@@ -56,7 +56,7 @@ fn halt_writer<F: Copy>(numbers: &mut Numbers) -> Reply<F>
 }
 
 // Stops a reader.
-fn halt_reader<F: Copy>(numbers: &Numbers, readers: &mut [Reader<F>], reader: u32) -> Reply<F>
+pub fn halt_reader<F: Copy>(numbers: &Numbers, readers: &mut [Reader<F>], reader: u32) -> Reply<F>
     requires { Kept numbers.now }
     ensures { (start : F) (rule : QuorumRule) (rs : List (ReplicaRow F)) (ks : List MarkRow) (ms : List (MessageRow F)) (ls : List (JournalRow F))
         → length ms ≡ numbers.now.message_room → length ls ≡ numbers.now.journal_room
@@ -79,7 +79,11 @@ fn halt_reader<F: Copy>(numbers: &Numbers, readers: &mut [Reader<F>], reader: u3
 }
 
 // Stops a replica.
-fn halt_replica<F: Copy>(numbers: &Numbers, replicas: &mut [Replica<F>], replica: u32) -> Reply<F>
+pub fn halt_replica<F: Copy>(
+    numbers: &Numbers,
+    replicas: &mut [Replica<F>],
+    replica: u32,
+) -> Reply<F>
     requires { Kept numbers.now }
     ensures { (start : F) (rule : QuorumRule) (ds : List (ReaderRow F)) (ks : List MarkRow) (ms : List (MessageRow F)) (ls : List (JournalRow F))
         → rule.size ≡ length replicas.old

@@ -1,6 +1,6 @@
 use Rattle.std.proofs.Common.{sym, refl}
 use Rattle.register.specs.Calls.{meaning}
-use Rattle.register.proofs.Histories.{carries_declined, carries_judged}
+use Rattle.register.proofs.Calling.{carries_declined, carries_judged}
 use Rattle.register.proofs.Invariants.{kept_of, keeps}
 use Rattle.register.proofs.service.Register.halt.Goals as goal
 

@@ -1,5 +1,5 @@
 use Rattle.std.proofs.Common.{sym, refl, arith}
-use Rattle.register.proofs.Histories.{fits_tells, declines_lengths, declines_unsound}
+use Rattle.register.proofs.Calling.{fits_tells, declines_lengths, declines_unsound}
 use Rattle.register.proofs.Invariants.{kept_of}
 use Rattle.tables.specs.View.{tables}
 use Rattle.register.proofs.service.Register.refusal.Goals as goal

@@ -1,0 +1,113 @@
+-- A call carries the claims, whatever the lengths of the tables are.
+use Rattle.std.proofs.Common.{◌≡◌, true, false, [], ◌∷◌, ◌++◌, length, sym, refl, ap, ◌∙◌, subst}
+use Rattle.std.proofs.lemmas.Bool.{and_parts, eqb-true, eq-eqb}
+use Rattle.quorum.specs.Sets.{Rule}
+use Rattle.model.specs.declared.calls.Call.{Call}
+use Rattle.model.specs.declared.answers.Reply.{Reply}
+use Rattle.model.specs.declared.answers.Refusal.{Refusal}
+use Rattle.model.specs.State.{State}
+use Rattle.model.specs.Sound.{sound}
+use Rattle.model.specs.Steps.{Outcome, step}
+use Rattle.model.specs.History.{History, Grows, more}
+use Rattle.model.proofs.Serving.{serves}
+use Rattle.tables.specs.declared.numbers.Numbers.{Numbers}
+use Rattle.tables.specs.View.{Tables, view, Fitting, Kept}
+use Rattle.steps.specs.Doing.{judged, Does, SameSizes}
+use Rattle.register.specs.Histories.{Grown, called}
+use Rattle.register.specs.Calls.{fits, answered, CarriesAnswered, Checked, Declines}
+use Rattle.register.proofs.Histories.{step_sound, step_unsound}
+use Rattle.steps.proofs.Judging.{same_sizes}
+use Rattle.steps.proofs.Fronts.{stored_take}
+
+-- LENGTHS
+
+module _ {F : Type 0} (n : Numbers) (t : Tables F) where
+  pub fits_tells : fits n t ≡ true → Fitting n t
+  fits_tells e =
+      let a = and_parts _ _ e in
+      let b = and_parts _ _ a.0 in
+      let c = and_parts _ _ b.0 in
+      let d = and_parts _ _ c.0 in
+      record {
+        replicas = eqb-true _ _ d.0;
+        readers = eqb-true _ _ d.1;
+        marks = eqb-true _ _ c.1;
+        messages = eqb-true _ _ b.1;
+        journal = eqb-true _ _ a.1;
+      }
+
+  pub fitting_tells : Fitting n t → fits n t ≡ true
+  fitting_tells f =
+      rw (eq-eqb _ _ f.replicas, eq-eqb _ _ f.readers, eq-eqb _ _ f.marks, eq-eqb _ _ f.messages, eq-eqb _ _ f.journal)
+
+-- The tables have their lengths still.
+pub record SameLengths {F : Type 0} (t t' : Tables F) : Type 0 where
+  pub replicas : length t'.replicas ≡ length t.replicas
+  pub readers : length t'.readers ≡ length t.readers
+  pub marks : length t'.marks ≡ length t.marks
+  pub messages : length t'.messages ≡ length t.messages
+  pub journal : length t'.journal ≡ length t.journal
+
+pub same_lengths : {F : Type 0} (t : Tables F) → SameLengths t t
+same_lengths t = record { replicas = refl; readers = refl; marks = refl; messages = refl; journal = refl }
+
+fitting_still : {F : Type 0} {n n' : Numbers} {t t' : Tables F} → SameSizes n n' → SameLengths t t' → Fitting n t → Fitting n' t'
+fitting_still {F} {n} {n'} sizes lengths f = record {
+  replicas = lengths.replicas ∙ f.replicas ∙ sym sizes.replicas;
+  readers = lengths.readers ∙ f.readers ∙ sym sizes.readers;
+  marks = lengths.marks ∙ f.marks ∙ rw (sizes.replicas, sizes.readers);
+  messages = lengths.messages ∙ f.messages ∙ sym sizes.message_room;
+  journal = lengths.journal ∙ f.journal ∙ sym sizes.journal_room;
+}
+
+-- THE STEP
+
+module _ {F : Type 0} (rule : Rule) (start : F) (n : Numbers) (t : Tables F) where
+  pub answered_fitting : Fitting n t → (c : Call F) → answered rule start n t c ≡ step rule (view start n t) c
+  unfolding answered
+  answered_fitting f c = rw (fitting_tells n t f)
+
+  pub declines_lengths : fits n t ≡ false → Declines rule start n t Refusal.TableLength
+  unfolding answered
+  declines_lengths e c = rw e
+
+  pub declines_unsound : fits n t ≡ true → sound rule (view start n t) ≡ false → Declines rule start n t Refusal.Unsound
+  unfolding answered
+  declines_unsound e u c = rw e (step_unsound rule (view start n t) c u)
+
+  module _ (c : Call F) (r : Reply F) (n' : Numbers) (t' : Tables F) where
+    carries_answered : SameLengths t t' → Does start (answered rule start n t c) n t r n' t' → CarriesAnswered rule start c n t r n' t'
+    carries_answered lengths d =
+        let grown : (h : History F) → Grown rule start h n t → Grown rule start (h ++ called rule start n t c ∷ []) n' t'
+        = λ h g. record {
+          fits = fitting_still d.sizes lengths g.fits;
+          grows =
+              subst (λ (s : State F). Grows rule start (h ++ called rule start n t c ∷ []) s)
+              (sym (d.state ∙ ap (λ (o : Outcome F). o.next) (answered_fitting g.fits c))) (more g.grows c);
+        } in
+        record {
+          does = d;
+          grows = grown;
+          serves = λ h g law. serves F rule law start _ _ (grown h g).grows;
+        }
+
+    -- behind the check, what the call comes to on sound tables
+    pub carries_judged : Checked rule start n t → SameLengths t t' → Does start (judged rule (view start n t) c) n t r n' t'
+        → CarriesAnswered rule start c n t r n' t'
+    carries_judged checked lengths d =
+        carries_answered lengths
+        (subst (λ (o : Outcome F). Does start o n t r n' t')
+        (sym (answered_fitting checked.fitting c ∙ step_sound rule (view start n t) c checked.is_sound)) d)
+
+  -- before it, a refusal
+  pub carries_declined : (c : Call F) (e : Refusal) → Kept n → Declines rule start n t e
+      → CarriesAnswered rule start c n t (Reply.Declined e) n t
+  carries_declined c e kept declines =
+      carries_answered c (Reply.Declined e) n t (same_lengths t) (rw (declines c) (record {
+        answer = refl;
+        state = refl;
+        messages = sym (stored_take n.waiting t.messages);
+        journal = sym (stored_take n.lines t.journal);
+        kept = kept;
+        sizes = same_sizes n;
+      }))
