@@ -4,7 +4,7 @@ pub mod Limits
 pub mod Orders
 pub mod Tides
 pub mod Room
-pub mod OrderKindLemmas
-pub mod ReadBack
 pub mod Limited
-pub mod TideKindLemmas
+pub mod ReadBack
+pub mod OrderLaws
+pub mod TideLaws

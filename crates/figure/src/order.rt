@@ -1,15 +1,10 @@
-ghost use Rattle.std.specs.Prelude.{◌≡◌, ◌+◌, ◌<◌, ◌≤◌, length, Some as Just, Ok, codes};
-ghost use Rattle.std.proofs.Math.Path.{refl, subst, ap};
-ghost use Rattle.std.proofs.Common.{sym, ◌∙◌, length-append};
-ghost use Rattle.figure.specs.declared.order.DigOrder.TheVariants.{Hold as HoldOrder, Hold, Dig, Shift};
+ghost use Rattle.std.specs.Prelude.{◌≡◌, ◌+◌, ◌≤◌, length, Some as Just, codes};
+ghost use Rattle.figure.specs.declared.order.DigOrder.TheVariants.{Hold as HoldOrder};
 ghost use Rattle.figure.specs.Limits.{up_to};
 ghost use Rattle.figure.specs.Orders.{arm_of, verb_of, verb_fields, dig_from, shift_from};
 ghost use Rattle.figure.specs.Orders.{order_wanted, order_reading, arm_shown, dig_shown, shift_shown, order_shown};
 ghost use Rattle.text.specs.Printing.{Printed};
-ghost use native.Mathlib.Omega.{arith};
-ghost use Rattle.std.proofs.lemmas.Fmt.{length-decimal-le};
-ghost use Rattle.figure.specs.OrderKindLemmas.{arm_short, dig_parts, shift_parts, read_arm};
-ghost use Rattle.figure.specs.ReadBack.{read_up_to};
+ghost use Rattle.figure.specs.OrderLaws.{order_short, order_counts_back, order_reads_back};
 
 use crate::fault::FigureFault;
 use crate::kind::FigureKind;
@@ -151,35 +146,11 @@ impl FigureKind for DigOrder {
 
     ghost shown = { order_shown };
 
-    ghost short = { elim [
-      | Hold ↦ omega arith
-      | Dig depth arm ↦
-          let n = depth.value in
-          let digits = length-decimal-le 5 n (omega arith) (omega (arith, depth.ok)) (omega (arith, depth.ok)) in
-          simp length-append (omega (arith, arm_short arm))
-      | Shift section ↦
-          let n = section.value in
-          let digits = length-decimal-le 4 n (omega arith) (omega (arith, section.ok)) (omega (arith, section.ok)) in
-          simp length-append (omega arith)
-    ] };
+    ghost short = { order_short };
 
-    ghost counts_back = { unfold verb_of in
-        elim [
-          | Hold ↦ refl
-          | Dig depth arm ↦ subst (λ fs. order_wanted fs ≡ Ok (length fs)) (sym (dig_parts depth arm)) refl
-          | Shift section ↦ subst (λ fs. order_wanted fs ≡ Ok (length fs)) (sym (shift_parts section)) refl
-        ] };
+    ghost counts_back = { order_counts_back };
 
-    ghost reads_back = { unfold verb_of in
-        elim [
-          | Hold ↦ refl
-          | Dig depth arm ↦
-              let few : 60000 < 1000000 = omega arith in
-              ap order_reading (dig_parts depth arm) ∙ rw (read_up_to 60000 few depth, read_arm arm)
-          | Shift section ↦
-              let few : 9999 < 1000000 = omega arith in
-              ap order_reading (shift_parts section) ∙ rw (read_up_to 9999 few section)
-        ] };
+    ghost reads_back = { order_reads_back };
 
     fn word<'a>() -> &'a str {
         "order"

@@ -1,11 +1,8 @@
-ghost use Rattle.std.specs.Prelude.{◌≡◌, ◌+◌, ◌<◌, ◌≤◌, length, codes};
-ghost use Rattle.std.proofs.Common.{ap, ◌∙◌, length-append, arith};
+ghost use Rattle.std.specs.Prelude.{◌≡◌, ◌+◌, ◌≤◌, length, codes};
 ghost use Rattle.text.specs.Printing.{Printed};
 ghost use Rattle.figure.specs.Tides.{tide_from, tide_of, tide_start, tide_wanted, tide_reading};
 ghost use Rattle.figure.specs.Tides.{tide_shown, level_minute_shown};
-ghost use Rattle.std.proofs.lemmas.Fmt.{length-decimal-le, length_signed_le};
-ghost use Rattle.figure.specs.TideKindLemmas.{mag_le, parts};
-ghost use Rattle.figure.specs.ReadBack.{read_level, read_up_to};
+ghost use Rattle.figure.specs.TideLaws.{tide_short, tide_counts_back, tide_reads_back};
 
 use crate::fault::FigureFault;
 use crate::kind::FigureKind;
@@ -52,19 +49,11 @@ impl FigureKind for Tide {
 
     ghost shown = { tide_shown };
 
-    ghost short = { λ t.
-        let level = t.level.mm in
-        let minute = t.minute.value in
-        let m = mag_le level in
-        let a = length_signed_le 5 level (omega (arith, t.level.ok)) (omega (arith, t.level.ok)) in
-        let b = length-decimal-le 4 minute (omega arith) (omega (arith, t.minute.ok)) (omega (arith, t.minute.ok)) in
-        simp length-append (omega arith) };
+    ghost short = { tide_short };
 
-    ghost counts_back = { λ t. rw (parts t) };
+    ghost counts_back = { tide_counts_back };
 
-    ghost reads_back = { λ t.
-        let few : 1439 < 1000000 = omega arith in
-        ap tide_reading (parts t) ∙ rw (read_level t.level, read_up_to 1439 few t.minute) };
+    ghost reads_back = { tide_reads_back };
 
     fn word<'a>() -> &'a str {
         "tide"

@@ -1,4 +1,4 @@
-ghost use Rattle.std.specs.Prelude.{◌≡◌, ◌+◌, ◌^◌, ◌<◌, ◌≤◌, ◌∷◌, ◌++◌, length, IfOk, Ok as Fine, OnOk};
+ghost use Rattle.std.specs.Prelude.{◌≡◌, ◌+◌, ◌<◌, ◌≤◌, ◌++◌, length, IfOk, Ok as Fine, OnOk};
 ghost use Rattle.text.specs.LineCursors.{lines_ahead};
 ghost use Rattle.script.specs.Openings.{opening};
 ghost use Rattle.register.specs.Clusters.{cluster_state, cluster_rule};

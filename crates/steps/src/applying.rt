@@ -1,4 +1,4 @@
-ghost use Rattle.std.specs.Prelude.{◌≡◌, ℕ, ◌+◌, ◌-◌, ◌<◌, ◌≤◌, List, [], ◌∷◌, ◌++◌, length, get_or, take, set, slice_index_or, slice_set};
+ghost use Rattle.std.specs.Prelude.{◌≡◌, ◌+◌, ◌-◌, ◌<◌, ◌≤◌, List, ◌++◌, length, get_or, take, set, slice_index_or, slice_set};
 ghost use Rattle.model.specs.State.{stored, no_line};
 ghost use Rattle.model.specs.Steps.{counted};
 ghost use Rattle.model.specs.declared.answers.Reply.{Reply as ModelReply};

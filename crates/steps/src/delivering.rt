@@ -1,4 +1,4 @@
-ghost use Rattle.std.specs.Prelude.{◌≡◌, ◌+◌, ◌≤◌, true, List, [], length};
+ghost use Rattle.std.specs.Prelude.{◌≡◌, ◌+◌, ◌≤◌, true, [], length};
 ghost use Rattle.model.specs.Sound.{sound as is_sound};
 ghost use Rattle.model.specs.Steps.{outcome};
 ghost use Rattle.model.specs.declared.calls.Call.{Call as ModelCall};

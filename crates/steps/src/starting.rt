@@ -1,4 +1,4 @@
-ghost use Rattle.std.specs.Prelude.{◌≡◌, ℕ, ◌+◌, ◌<◌, ◌≤◌, List, [], ◌∷◌, ◌++◌, length, take, IfNone};
+ghost use Rattle.std.specs.Prelude.{◌≡◌, ◌+◌, ◌<◌, ◌≤◌, List, [], ◌∷◌, ◌++◌, length, take, IfNone};
 ghost use Rattle.quorum.specs.Sets.{Rule as QuorumRule};
 ghost use Rattle.model.specs.State.{stored};
 ghost use Rattle.model.specs.Steps.{first_of, opening_phase, opening_message};

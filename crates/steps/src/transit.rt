@@ -1,4 +1,4 @@
-ghost use Rattle.std.specs.Prelude.{◌≡◌, ℕ, List, length};
+ghost use Rattle.std.specs.Prelude.{◌≡◌, List, length};
 ghost use Rattle.quorum.specs.Sets.{Rule as QuorumRule};
 ghost use Rattle.model.specs.declared.calls.Call.{Call as ModelCall};
 ghost use Rattle.model.specs.declared.reader.Reader.{Reader as ReaderRow};

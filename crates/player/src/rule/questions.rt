@@ -1,4 +1,3 @@
-ghost use Rattle.std.specs.Prelude.{◌≡◌};
 ghost use Rattle.player.specs.Rules.{meaning_of};
 
 use super::ScriptRule;

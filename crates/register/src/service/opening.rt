@@ -1,4 +1,4 @@
-ghost use Rattle.std.specs.Prelude.{◌≡◌, ◌*◌, IfOk};
+ghost use Rattle.std.specs.Prelude.{◌≡◌, IfOk};
 ghost use Rattle.quorum.specs.Refusals.{declined};
 ghost use Rattle.quorum.specs.Meaning.{rule_of};
 ghost use Rattle.register.specs.Commissioning.{draft_refusal};

@@ -1,4 +1,3 @@
-ghost use Rattle.std.specs.Prelude.{◌≡◌};
 ghost use Rattle.register.specs.Clusters.{Steps};
 
 use super::Cluster;
