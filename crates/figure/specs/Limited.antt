@@ -1,4 +1,4 @@
--- Values whose type has a limit as its invariant.
+-- Values whose type has a limit as its invariant. Lemmas under the laws, and no definition that a reader must believe.
 use Rattle.std.specs.Prelude.{◌≡◌, ℕ, ◌<◌, ◌≤◌, Bool, true, false, leb, Some, None, nat_le, refl}
 use Rattle.std.proofs.Common.{ap, leb-true, leb-false, arith}
 use Rattle.std.proofs.Math.Bridge.{le_prop}

@@ -1,4 +1,4 @@
--- What is printed of a limited number is read back as it is.
+-- What is printed of a limited number is read back as it is. Lemmas under the laws, and no definition that a reader must believe.
 use Rattle.std.specs.Prelude.{◌≡◌, ℕ, ◌<◌, nat_abs, Some, decimal}
 use Rattle.std.proofs.Common.{sym, arith}
 use Rattle.std.specs.Fmt.{signed_decimal}
