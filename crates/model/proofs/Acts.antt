@@ -12,7 +12,8 @@ use Rattle.model.specs.State.{State, Held, index, new_replica, new_mark, replica
 use Rattle.model.specs.Records.{took}
 use Rattle.model.specs.Deliveries.{Effect, carried, on_offer}
 use Rattle.model.specs.History.{Event, History}
-use Rattle.model.proofs.Lists.{each_set_all, get_set}
+use Rattle.std.proofs.lemmas.List.{get_or-set_same}
+use Rattle.model.proofs.Lists.{each_set_all}
 use Rattle.model.proofs.World.{World, Later}
 use Rattle.model.proofs.Moves.{raised, later_raised, core_raised}
 use Rattle.model.proofs.Good.{True, Store, MarkGood, Told, Good, Kept, true_later, mark_later, messages_later, phase_later, writing_later, line_later, advance}
@@ -65,7 +66,7 @@ module _ {F : Type 0} (q : Rule) (R : ℕ) (law : Lawful q) (start : F) (w : Wor
     pub there : bt c ≡ rank x.stamp
     there =
         ap (λ y. rank y.stamp)
-        (get_set s.replicas c taken_by (new_replica s.start) (omega (arith, g.replicas_are)))
+        (get_or-set_same s.replicas c taken_by (new_replica s.start) (omega (arith, g.replicas_are)))
 
     pub covers : rank offered.stamp ≤ bt c
     covers = omega (arith, there, tk.above_offered)

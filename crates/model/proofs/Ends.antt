@@ -17,7 +17,8 @@ use Rattle.model.specs.State.{State, Held, new_reader, new_mark, no_line, line, 
 use Rattle.model.specs.Records.{one_more, ended}
 use Rattle.model.specs.Deliveries.{finish_event, finishing}
 use Rattle.model.specs.History.{Event, History}
-use Rattle.model.proofs.Lists.{each_set, get_set}
+use Rattle.std.proofs.lemmas.List.{get_or-set_same}
+use Rattle.model.proofs.Lists.{each_set}
 use Rattle.model.proofs.World.{put_same, put_other, put_each, Op, World, Onward, Later, OpGood}
 use Rattle.model.proofs.Moves.{changed, later_changed, core_changed, ended_op, onward_ended}
 use Rattle.model.proofs.Good.{code, apart_reader, current, Says, InPhase, Writing, LineGood, AtWork, Answers, Closes, Good, Kept, true_later, mark_later, messages_later, Still, phase_later, writing_later, line_later, advance}
@@ -91,7 +92,7 @@ module _ {F : Type 0} (q : Rule) (R : ℕ) (law : Lawful q) (start : F) (w : Wor
       lines₃ =
           put_each (λ i o. LineGood v₃ o (get_or (set s.journal (pred j) nl) (pred i) (no_line s.start))) w.ops
           j E
-          (subst (LineGood v₃ E) (sym (get_set s.journal (pred j) nl (no_line s.start) has_line)) line_new)
+          (subst (LineGood v₃ E) (sym (get_or-set_same s.journal (pred j) nl (no_line s.start) has_line)) line_new)
           (λ i n. elim (cases_eq (w.ops i).stage 0) [
             | inl e ↦ line_none v₃ (w.ops i) _ e
             | inr p ↦

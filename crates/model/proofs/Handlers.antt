@@ -2,7 +2,7 @@
 use Rattle.std.proofs.Common.{◌≡◌, ℕ, pred, ◌+◌, ◌*◌, ◌<◌, ◌≤◌, true, false, cond, not, ◌&&◌, ◌||◌, eqb, ltb, List, [], ◌∷◌, length, get_or, set, sym, refl, ap, ◌∙◌, subst, inl, inr, le_of_eq, mul-le-mul_right, arith, length-set}
 use Rattle.std.specs.List.{AllByRecursion as All}
 use Rattle.std.proofs.lemmas.List.{get_or-set_same}
-use Rattle.std.proofs.lemmas.Bool.{cond_both, cond-true, cases_eq, eqb-true, eq-eqb, ltb-true, and_parts, or_cases, not-true, both_ways}
+use Rattle.std.proofs.lemmas.Bool.{cond_both, cond-true, cases_eq, eqb-true, eq-eqb, and_parts, or_cases, not-true, both_ways}
 use Rattle.std.proofs.lemmas.Bool.Decides.{nat_tests}
 use Rattle.quorum.specs.Sets.{Rule, bits}
 use Rattle.model.specs.declared.parties.Party.{Party}
@@ -18,6 +18,7 @@ use Rattle.model.specs.Records.{took, best, heard, confirmed, lowered, placing, 
 use Rattle.model.specs.Sound.{a_reader, a_replica, suits, owned, recorded, idle, is_reader, placed, in_journal, is_read, is_round_read, is_relay_read}
 use Rattle.model.specs.Deliveries.{Effect, quiet, sending, to_all, carried, answer, counts, in_first, in_second, in_relay, read_finishing, after_have, after_last, is_quick, on_offer, on_put_ack, on_query, on_have, on_back_ack, on_reply, on_fan, on_relay, on, received}
 use Rattle.model.specs.Claims.{of_operation}
+use Rattle.model.proofs.Places.{reader_index, replica_index}
 use Rattle.model.proofs.Totals.{set_below, weight, only_for, only_same, only_other, load_of, load, of_operation_to_all, load_to_all, Of, all_to_all, LinesKept, lines_same, lines_ended}
 use Rattle.model.proofs.Reserve.{pending, unanswered, unreplied, reserve, unreplied_below, unreplied_less, marked_below, replied_below, marked_operation, could_reply, has_replied, reserve_below}
 
@@ -452,20 +453,10 @@ module _ {F : Type 0} where
 
     -- Any message, of which the tables say what sound tables do
 
-    reader_in : (p : Party) → a_reader s p ≡ true → index p < length s.readers
-    reader_in Party.Writer e = absurd (both_ways false refl e)
-    reader_in (Party.Reader r) e = ltb-true r (length s.readers) e
-    reader_in (Party.Replica c) e = absurd (both_ways false refl e)
-
-    replica_in : (p : Party) → a_replica rule p ≡ true → index p < rule.size
-    replica_in Party.Writer e = absurd (both_ways false refl e)
-    replica_in (Party.Reader r) e = absurd (both_ways false refl e)
-    replica_in (Party.Replica c) e = ltb-true c rule.size e
-
     owner_in : (k : OperationKind) (p : Party) → is_relay_read k ≡ true → owned s k p ≡ true
         → index p < length s.readers
     owner_in OperationKind.Write p e o = absurd (both_ways false refl e)
-    owner_in (OperationKind.Read k) p e o = reader_in p o
+    owner_in (OperationKind.Read k) p e o = reader_index s p o
 
     on_handled : (kind : MessageKind) → m.kind ≡ kind
         → suits rule s kind m.sender m.receiver ≡ true → recorded s kind (line s m.operation) ≡ true
@@ -477,7 +468,7 @@ module _ {F : Type 0} where
     on_handled MessageKind.PutAck e to b p shape = put_ack_handled
     on_handled MessageKind.Query e to b p shape = query_handled (ap (weight rule.size) e)
     on_handled MessageKind.Have e to b p shape =
-        let inside = reader_in m.receiver
+        let inside = reader_index s m.receiver
         (and_parts (a_replica rule m.sender) (a_reader s m.receiver) to).1 in
         have_handled inside
         (and_parts (is_round_read (line s m.operation).kind) (owned s (line s m.operation).kind (line s m.operation).owner) b).0
@@ -486,7 +477,7 @@ module _ {F : Type 0} where
     on_handled MessageKind.BackAck e to b p shape = back_ack_handled
     on_handled MessageKind.Fan e to b p shape = fan_handled (ap (weight rule.size) e)
     on_handled MessageKind.Relay e to b p shape =
-        let low = replica_in m.receiver
+        let low = replica_index rule m.receiver
         (and_parts (a_replica rule m.sender) (a_replica rule m.receiver) to).1 in
         let booking = and_parts (is_relay_read (line s m.operation).kind)
         (owned s (line s m.operation).kind (line s m.operation).owner) b in

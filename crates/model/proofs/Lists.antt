@@ -2,6 +2,7 @@
 use Rattle.std.proofs.Common.{◌≡◌, ℕ, zero, suc, ◌<◌, ◌≤◌, ◌⊎◌, List, [], ◌∷◌, ◌++◌, length, get_or, set, replicate, sym, refl, ap, ◌∙◌, subst, inl, inr, arith}
 use Rattle.std.specs.List.{AllByRecursion as All}
 use Rattle.std.proofs.lemmas.Bool.{cases_eq}
+use Rattle.std.proofs.lemmas.List.{get_or_past}
 use Rattle.std.proofs.ByRecursion.{All-push}
 use Rattle.model.specs.declared.parties.Party.{Party}
 use Rattle.model.specs.declared.messages.MessageKind.{MessageKind}
@@ -25,35 +26,15 @@ module _ {A : Type 0} where
   each_set P (y ∷ l) (suc i) x d h u o (suc k) =
       each_set (λ n. P (suc n)) l i x d h (λ b. u (omega arith)) (λ n e. o (suc n) (λ s. e (omega arith))) k
 
-  pub get_out : (l : List A) (i : ℕ) (d : A) → length l ≤ i → get_or l i d ≡ d
-  get_out [] i d h = refl
-  get_out (x ∷ l) zero d h = absurd (omega arith)
-  get_out (x ∷ l) (suc i) d h = get_out l i d (omega arith)
-
   pub each_set_all : (P : ℕ → A → Type 0) (l : List A) (i : ℕ) (x d : A) → P i x → ((k : ℕ) → P k (get_or l k d))
       → (k : ℕ) → P k (get_or (set l i x) k d)
-  each_set_all P l i x d h o = each_set P l i x d h (λ u. subst (P i) (get_out l i d u) (o i)) (λ k _. o k)
-
-  -- A place of the table that is written holds what was written.
-  pub get_set : (l : List A) (i : ℕ) (x d : A) → i < length l → get_or (set l i x) i d ≡ x
-  get_set [] i x d h = absurd (omega arith)
-  get_set (y ∷ l) zero x d h = refl
-  get_set (y ∷ l) (suc i) x d h = get_set l i x d (omega arith)
+  each_set_all P l i x d h o = each_set P l i x d h (λ u. subst (P i) (get_or_past l i d u) (o i)) (λ k _. o k)
 
   pub each_replicate : (P : ℕ → A → Type 0) (n : ℕ) (x d : A) → ((k : ℕ) → P k x) → ((k : ℕ) → P k d) → (k : ℕ)
       → P k (get_or (replicate n x) k d)
   each_replicate P zero x d h u k = u k
   each_replicate P (suc n) x d h u zero = h zero
   each_replicate P (suc n) x d h u (suc k) = each_replicate (λ i. P (suc i)) n x d (λ i. h (suc i)) (λ i. u (suc i)) k
-
-  pub get_old : (l : List A) (x d : A) (k : ℕ) → k < length l → get_or (l ++ x ∷ []) k d ≡ get_or l k d
-  get_old [] x d k h = absurd (omega arith)
-  get_old (y ∷ l) x d zero h = refl
-  get_old (y ∷ l) x d (suc k) h = get_old l x d k (omega arith)
-
-  pub get_new : (l : List A) (x d : A) → get_or (l ++ x ∷ []) (length l) d ≡ x
-  get_new [] x d = refl
-  get_new (y ∷ l) x d = get_new l x d
 
   pub length_push : (l : List A) (x : A) → length (l ++ x ∷ []) ≡ suc (length l)
   length_push [] x = refl

@@ -15,7 +15,8 @@ use Rattle.model.specs.Deliveries.{Effect, carried, answer, in_relay, counts, af
 use Rattle.model.specs.History.{History}
 use Rattle.model.specs.Claims.{In}
 use Rattle.model.proofs.Sets.{joined_same, joined_old}
-use Rattle.model.proofs.Lists.{each_set_all, get_out, get_set, in_right}
+use Rattle.std.proofs.lemmas.List.{get_or_past, get_or-set_same}
+use Rattle.model.proofs.Lists.{each_set_all, in_right}
 use Rattle.model.proofs.World.{World}
 use Rattle.model.proofs.Good.{current, Relayed, Settling, Says, Good}
 use Rattle.model.proofs.Waits.{counts_parts, Hearing, hearing_lowered}
@@ -109,7 +110,7 @@ module _ {F : Type 0} (q : Rule) (R : ℕ) (law : Lawful q) (start : F) (w : Wor
     reader_low r o = elim (cases_lt r R) [
       | inl l ↦ l
       | inr l ↦ let z =
-          ap (λ y. y.operation) (get_out s.readers r (new_reader s.start) (omega (arith, g.readers_are))) in
+          ap (λ y. y.operation) (get_or_past s.readers r (new_reader s.start) (omega (arith, g.readers_are))) in
           absurd (omega arith)
     ]
 
@@ -151,7 +152,7 @@ module _ {F : Type 0} (q : Rule) (R : ℕ) (law : Lawful q) (start : F) (w : Wor
 
           is_new : r₀ ≡ r → mark_at R (set s.marks at k') c r ≡ k'
           is_new d =
-              ap (λ n. get_or (set s.marks at k') n new_mark) (sym (at_is ∙ ap (λ n. c * R + n) d)) ∙ get_set
+              ap (λ n. get_or (set s.marks at k') n new_mark) (sym (at_is ∙ ap (λ n. c * R + n) d)) ∙ get_or-set_same
               s.marks at k' new_mark inside
 
           new_noted : (n i : ℕ) → To m MessageKind.Relay j i → index m.sender ≡ n

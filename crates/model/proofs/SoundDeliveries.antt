@@ -24,6 +24,7 @@ use Rattle.model.specs.Sound.{is_relay_read, serves, owned, recorded, idle, own_
 use Rattle.model.specs.Deliveries.{Effect, quiet, sending, written, to_all, carried, answer, counts, in_first}
 use Rattle.model.specs.Deliveries.{in_second, in_relay, is_quick, read_finishing, after_last, on_offer, on_put_ack}
 use Rattle.model.specs.Deliveries.{on_query, on_have, on_back_ack, on_reply, on_fan, on_relay, on, received}
+use Rattle.model.proofs.Places.{reader_index}
 use Rattle.model.proofs.Lists.{all_to_all}
 use Rattle.model.proofs.SoundTables.{Fits, ReaderIn, MarkIn, Placed, Tables, fits_later}
 use Rattle.model.proofs.SoundChanges.{later_reader, parties_changed, mark_changed, reader_changed, line_ended}
@@ -70,11 +71,6 @@ module _ {F : Type 0} (s : State F) where
   relay_owner : (k : OperationKind) (p : Party) → is_relay_read k ≡ true → owned s k p ≡ true → a_reader s p ≡ true
   relay_owner OperationKind.Write p e o = absurd (true≢false (sym e))
   relay_owner (OperationKind.Read k) p e o = o
-
-  reader_index : (p : Party) → a_reader s p ≡ true → index p < length s.readers
-  reader_index Party.Writer e = absurd (true≢false (sym e))
-  reader_index (Party.Reader r) e = ltb-true r (length s.readers) e
-  reader_index (Party.Replica c) e = absurd (true≢false (sym e))
 
 -- Readers
 

@@ -21,7 +21,9 @@ use Rattle.model.specs.Deliveries.{Effect}
 use Rattle.model.specs.Steps.{next_number, to_write, write, opening_phase, opening_message, read}
 use Rattle.model.specs.History.{Event, History}
 use Rattle.model.proofs.Sets.{none}
-use Rattle.model.proofs.Lists.{each_set, get_set, get_old, get_new, length_push, one, all_to_all, in_to_all}
+use Rattle.std.proofs.lemmas.List.{get_or-set_same, get_or_append_left}
+use Rattle.std.proofs.Math.Seq.{get_or-append_seam}
+use Rattle.model.proofs.Lists.{each_set, length_push, one, all_to_all, in_to_all}
 use Rattle.model.proofs.Ranks.{rank_start, rank_next}
 use Rattle.model.proofs.World.{put_at, put_same, put_other, put_each, Op, World, Later, Core}
 use Rattle.model.proofs.Moves.{read_op, write_op, read_begun, write_begun, later_read, core_read, later_write, core_write}
@@ -124,11 +126,11 @@ module _ {F : Type 0} (q : Rule) (R : ℕ) (law : Lawful q) (start : F) (w : Wor
                   (let c : pred (suc w.count) ≡ length s.journal = omega (arith, g.count_is) in
                   subst (LineGood v₅ o)
                   (sym
-                  (ap (λ k. get_or (s.journal ++ nl ∷ []) k (no_line s.start)) c ∙ get_new s.journal nl (no_line s.start)))
+                  (ap (λ k. get_or (s.journal ++ nl ∷ []) k (no_line s.start)) c ∙ get_or-append_seam s.journal nl [] (no_line s.start)))
                   good_line)
                   (λ i n. elim (cases_eq (w.ops i).stage 0) [
                     | inl z ↦ line_none v₅ (w.ops i) _ z
-                    | inr z ↦ subst (LineGood v₅ (w.ops i)) (sym (get_old s.journal nl (no_line s.start) (pred i) (omega (arith, (g.core.op i).counted (omega arith), (g.core.op i).named (omega arith), g.count_is))))
+                    | inr z ↦ subst (LineGood v₅ (w.ops i)) (sym (get_or_append_left s.journal (nl ∷ []) (no_line s.start) (pred i) (omega (arith, (g.core.op i).counted (omega arith), (g.core.op i).named (omega arith), g.count_is))))
                         (line_later q R start w v₅ up g.core i (line s i) (g.lines i))
                   ]);
               at_work = work₅;
@@ -209,7 +211,7 @@ module _ {F : Type 0} (q : Rule) (R : ℕ) (law : Lawful q) (start : F) (w : Wor
 
     now_read : current s.start s.writer.operation (set s.readers r d) (Party.Reader r) ≡ next_number s
     now_read =
-        ap (λ y. y.operation) (get_set s.readers r d (new_reader s.start) (omega (arith, g.readers_are))) ∙
+        ap (λ y. y.operation) (get_or-set_same s.readers r d (new_reader s.start) (omega (arith, g.readers_are))) ∙
         op_is
 
   pub kept_read : (r : ℕ) (kind : ReadKind) → r < R → (reader s r).operation ≡ 0

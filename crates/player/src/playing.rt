@@ -10,7 +10,7 @@ use crate::printing::push_answer;
 use crate::turn::play_line;
 use figure::{DigOrder, FigureKind, Tide};
 use quorum::QuorumSystem;
-use register::{Cluster, Draft};
+use register::{Cluster, Draft, Unfounded};
 use script::{Answer, Header, Kind, ScriptFault, TextFault, open_line};
 use std::alloc::{AllocError, Global};
 use text::LineCursor;
@@ -90,10 +90,12 @@ fn play_kind<F: FigureKind>(
     let Ok(draft) = Draft::new(rule, header.readers, F::start()) else {
         return Ok(());
     };
-    let Ok(cluster) = draft.found(heap, MESSAGE_ROOM, JOURNAL_ROOM) else {
-        return Err(AllocError);
-    };
-    play_calls(cluster, lines, out)?;
+    match draft.found(heap, MESSAGE_ROOM, JOURNAL_ROOM) {
+        Ok(cluster) => play_calls(cluster, lines, out)?,
+        // never so: the bench's rooms are within the limits of every draft
+        Err(Unfounded::Rooms(_)) => {}
+        Err(Unfounded::Memory(_)) => return Err(AllocError),
+    }
     Ok(())
 }
 

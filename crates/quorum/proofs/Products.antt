@@ -3,12 +3,12 @@ use Rattle.std.proofs.Common.{◌≡◌, ℕ, suc, ◌*◌, ◌/◌, ◌<◌, �
 use Rattle.std.proofs.lemmas.Nat.{mul-le}
 use Rattle.std.proofs.lemmas.Bool.{leb-true, le-leb, and_parts, and_from}
 use Rattle.quorum.specs.Refusals.{Product, product_fits}
-use Rattle.quorum.proofs.Tallies.{same_bool}
+use Rattle.std.specs.Cmp.{both_ways}
 
 -- the test that the code makes is the one that is stated
 pub limits_tested : (a b : ℕ) → 1 ≤ a → 1 ≤ b → leb b (24 / a) ≡ product_fits a b
 limits_tested a b x y =
-    same_bool (leb b (24 / a)) (product_fits a b)
+    both_ways (leb b (24 / a)) (product_fits a b)
     (λ e. and_from (leb 1 a && leb 1 b) (leb (a * b) 24) (and_from (leb 1 a) (leb 1 b) (le-leb 1 a x) (le-leb 1 b y))
     (le-leb (a * b) 24 (omega (arith, mul_comm a b, (le-div_iff_mul-le x).0 (leb-true b (24 / a) e)))))
     (λ e. le-leb b (24 / a) ((le-div_iff_mul-le x).1 (omega (arith, mul_comm a b, leb-true (a * b) 24 (and_parts (leb 1 a && leb 1 b) (leb (a * b) 24) e).1))))
