@@ -1,15 +1,13 @@
 -- A call that does its step carries the claims.
-use Rattle.std.proofs.Common.{◌≡◌, ℕ, ◌*◌, Bool, true, false, not, List, [], ◌∷◌, ◌++◌, length, sym, refl, ap, ◌∙◌, subst, arith}
+use Rattle.std.proofs.Common.{◌≡◌, true, false, [], ◌∷◌, ◌++◌, sym, subst}
 use Rattle.quorum.specs.Sets.{Rule}
-use Rattle.quorum.specs.Laws.{Lawful}
 use Rattle.model.specs.declared.calls.Call.{Call}
 use Rattle.model.specs.declared.answers.Reply.{Reply}
 use Rattle.model.specs.declared.answers.Refusal.{Refusal}
 use Rattle.model.specs.State.{State}
 use Rattle.model.specs.Sound.{sound}
-use Rattle.model.specs.Steps.{Outcome, step, refusal, declined}
+use Rattle.model.specs.Steps.{step, refusal, declined}
 use Rattle.model.specs.History.{History, Grows, more}
-use Rattle.model.specs.Claims.{Served}
 use Rattle.model.proofs.Serving.{serves}
 use Rattle.tables.specs.declared.numbers.Numbers.{Numbers}
 use Rattle.tables.specs.View.{Tables, view, Fitting}

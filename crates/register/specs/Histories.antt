@@ -1,5 +1,5 @@
 -- What a call on the register carries: its step, every place of the tables, and the claims over every history that led there.
-use Rattle.std.specs.Prelude.{◌≡◌, List, [], ◌∷◌, ◌++◌}
+use Rattle.std.specs.Prelude.{[], ◌∷◌, ◌++◌}
 use Rattle.quorum.specs.Sets.{Rule}
 use Rattle.quorum.specs.Laws.{Lawful}
 use Rattle.model.specs.declared.calls.Call.{Call}

@@ -1,9 +1,10 @@
 ghost use Rattle.std.specs.Prelude.{◌≡◌, MatchOption};
 ghost use Rattle.model.specs.declared.calls.Call.{Call as ModelCall};
 ghost use Rattle.tables.specs.View.{tables};
-ghost use Rattle.register.specs.Calls.{lengths_fit, meaning, Checked, Declines, Plays};
+ghost use Rattle.register.specs.Calls.{fits, meaning, Checked, Declines, Plays};
 
 use super::Register;
+use super::commissioning::parties_fit;
 use model::{
     Call, Message, Operation, Party, ReadKind, Reader, Refusal, RelayMark, Replica, Reply,
 };
@@ -24,7 +25,7 @@ impl<R: QuorumSystem, F: Copy> Register<R, F> {
         journal: &mut [Operation<F>],
         figure: F,
     ) -> Reply<F>
-        ensures { Plays R.QuorumSystem (ModelCall.Write figure)
+        ensures { Plays (ModelCall.Write figure)
             self.old (tables replicas.now readers.now marks.now messages.old journal.old)
             result
             self.new (tables replicas.now readers.now marks.now messages.new journal.new) }
@@ -47,7 +48,7 @@ impl<R: QuorumSystem, F: Copy> Register<R, F> {
         reader: u32,
         kind: ReadKind,
     ) -> Reply<F>
-        ensures { Plays R.QuorumSystem (ModelCall.Read reader kind)
+        ensures { Plays (ModelCall.Read reader kind)
             self.old (tables replicas.now readers.old marks.now messages.old journal.old)
             result
             self.new (tables replicas.now readers.new marks.now messages.new journal.new) }
@@ -77,7 +78,7 @@ impl<R: QuorumSystem, F: Copy> Register<R, F> {
         journal: &mut [Operation<F>],
         place: u32,
     ) -> Reply<F>
-        ensures { Plays R.QuorumSystem (ModelCall.Deliver place)
+        ensures { Plays (ModelCall.Deliver place)
             self.old (tables replicas.old readers.old marks.old messages.old journal.old)
             result
             self.new (tables replicas.new readers.new marks.new messages.new journal.new) }
@@ -109,7 +110,7 @@ impl<R: QuorumSystem, F: Copy> Register<R, F> {
         journal: &[Operation<F>],
         place: u32,
     ) -> Reply<F>
-        ensures { Plays R.QuorumSystem (ModelCall.Drop place)
+        ensures { Plays (ModelCall.Drop place)
             self.old (tables replicas.now readers.now marks.now messages.old journal.now)
             result
             self.new (tables replicas.now readers.now marks.now messages.new journal.now) }
@@ -131,7 +132,7 @@ impl<R: QuorumSystem, F: Copy> Register<R, F> {
         journal: &[Operation<F>],
         place: u32,
     ) -> Reply<F>
-        ensures { Plays R.QuorumSystem (ModelCall.Duplicate place)
+        ensures { Plays (ModelCall.Duplicate place)
             self.old (tables replicas.now readers.now marks.now messages.old journal.now)
             result
             self.new (tables replicas.now readers.now marks.now messages.new journal.now) }
@@ -153,7 +154,7 @@ impl<R: QuorumSystem, F: Copy> Register<R, F> {
         journal: &[Operation<F>],
         party: Party,
     ) -> Reply<F>
-        ensures { Plays R.QuorumSystem (ModelCall.Halt party)
+        ensures { Plays (ModelCall.Halt party)
             self.old (tables replicas.old readers.old marks.now messages.now journal.now)
             result
             self.new (tables replicas.new readers.new marks.now messages.now journal.now) }
@@ -175,7 +176,7 @@ impl<R: QuorumSystem, F: Copy> Register<R, F> {
         journal: &mut [Operation<F>],
         call: Call<F>,
     ) -> Reply<F>
-        ensures { Plays R.QuorumSystem call
+        ensures { Plays call
             self.old (tables replicas.old readers.old marks.old messages.old journal.old)
             result
             self.new (tables replicas.new readers.new marks.new messages.new journal.new) }
@@ -207,16 +208,10 @@ impl<R: QuorumSystem, F: Copy> Register<R, F> {
         journal: &[Operation<F>],
     ) -> Option<Refusal>
         ensures { MatchOption result
-            (Checked (meaning R.QuorumSystem self.now) self.now.start self.now.numbers (tables replicas.now readers.now marks.now messages.now journal.now))
-            (Declines (meaning R.QuorumSystem self.now) self.now.start self.now.numbers (tables replicas.now readers.now marks.now messages.now journal.now)) }
+            (Checked (meaning self.now) self.now.start self.now.numbers (tables replicas.now readers.now marks.now messages.now journal.now))
+            (Declines (meaning self.now) self.now.start self.now.numbers (tables replicas.now readers.now marks.now messages.now journal.now)) }
     {
-        if !self.lengths_fit(
-            replicas.len(),
-            readers.len(),
-            marks.len(),
-            messages.len(),
-            journal.len(),
-        ) {
+        if !self.lengths_fit(replicas, readers, marks, messages, journal) {
             return Some(Refusal::TableLength);
         }
         if !tables_sound(&self.numbers, readers, marks, messages, journal) {
@@ -225,22 +220,20 @@ impl<R: QuorumSystem, F: Copy> Register<R, F> {
         None
     }
 
-    // Whether tables of these lengths are those that it was commissioned with.
+    // Whether the tables have the lengths that it was commissioned with.
     fn lengths_fit(
         &self,
-        replicas: usize,
-        readers: usize,
-        marks: usize,
-        messages: usize,
-        journal: usize,
+        replicas: &[Replica<F>],
+        readers: &[Reader<F>],
+        marks: &[RelayMark],
+        messages: &[Message<F>],
+        journal: &[Operation<F>],
     ) -> bool
-        ensures { result ≡ lengths_fit self.now.numbers replicas readers marks messages journal }
+        ensures { result ≡ fits self.now.numbers (tables replicas.now readers.now marks.now messages.now journal.now) }
     {
-        let numbers = self.numbers;
-        replicas == numbers.replicas as usize
-            && readers == numbers.readers as usize
-            && marks == numbers.replicas as usize * numbers.readers as usize
-            && messages == numbers.message_room
-            && journal == numbers.journal_room
+        let numbers = &self.numbers;
+        parties_fit(numbers.replicas, numbers.readers, replicas, readers, marks)
+            && messages.len() == numbers.message_room
+            && journal.len() == numbers.journal_room
     }
 }
