@@ -5,7 +5,7 @@ use Rattle.quorum.specs.Families.{count_rule, grid_rule, lead_rule, grouped_rule
 use Rattle.quorum.specs.declared.by_count.Count.{Count}
 use Rattle.quorum.specs.declared.refusal.RuleRefusal.{RuleRefusal}
 use Rattle.script.specs.declared.header.RuleText.{RuleText}
-use Rattle.player.specs.declared.rule.ScriptRule.{ScriptRule}
+use Rattle.script.specs.declared.rule.ScriptRule.{ScriptRule}
 
 -- The rule that a first line says.
 abbrev pub rule_said : RuleText → Rule
