@@ -1,10 +1,12 @@
 -- A call carries the claims, whatever the lengths of the tables are.
-use Rattle.std.proofs.Common.{◌≡◌, ℕ, true, false, [], ◌∷◌, ◌++◌, length, sym, refl, ap, ◌∙◌, subst}
+use Rattle.std.proofs.Common.{◌≡◌, ℕ, true, false, Err, [], ◌∷◌, ◌++◌, length, sym, refl, ap, ◌∙◌, subst}
+use Rattle.std.specs.Result.{IsErrAnd}
 use Rattle.std.proofs.lemmas.Bool.{and_parts, eqb-true, eq-eqb}
+use Rattle.std.proofs.lemmas.Result.{err_from_is_err_and}
 use Rattle.quorum.specs.Sets.{Rule}
 use Rattle.quorum.specs.declared.system.QuorumSystem.{Ghosts}
 use Rattle.model.specs.declared.calls.Call.{Call}
-use Rattle.model.specs.declared.answers.Reply.{Reply}
+use Rattle.model.specs.Answers.{Answer}
 use Rattle.model.specs.declared.answers.Refusal.{Refusal}
 use Rattle.model.specs.State.{State}
 use Rattle.model.specs.Sound.{sound}
@@ -77,7 +79,7 @@ module _ {F : Type 0} (rule : Rule) (start : F) (n : Numbers) (t : Tables F) whe
   unfolding answered
   declines_unsound e u c = rw e (step_unsound rule (view start n t) c u)
 
-  module _ (c : Call F) (r : Reply F) (n' : Numbers) (t' : Tables F) where
+  module _ (c : Call F) (r : Answer F) (n' : Numbers) (t' : Tables F) where
     carries_answered : SameLengths t t' → Does start (answered rule start n t c) n t r n' t' → CarriesAnswered rule start c n t r n' t'
     carries_answered lengths d =
         let grown : (h : History F) → Grown rule start h n t → Grown rule start (h ++ called rule start n t c ∷ []) n' t'
@@ -103,9 +105,9 @@ module _ {F : Type 0} (rule : Rule) (start : F) (n : Numbers) (t : Tables F) whe
 
   -- before it, a refusal
   carries_declined : (c : Call F) (e : Refusal) → Kept n → Declines rule start n t e
-      → CarriesAnswered rule start c n t (Reply.Declined e) n t
+      → CarriesAnswered rule start c n t (Err e) n t
   carries_declined c e kept declines =
-      carries_answered c (Reply.Declined e) n t (same_lengths t) (rw (declines c) (record {
+      carries_answered c (Err e) n t (same_lengths t) (rw (declines c) (record {
         answer = refl;
         state = refl;
         messages = sym (stored_take n.waiting t.messages);
@@ -122,15 +124,19 @@ module _ {R F : Type 0} {g : Ghosts R} (x : Register R F g) where
   rule_is = ap (λ (size : ℕ). rule_for g x.rule size) x.sized
 
   module _ {t : Tables F} where
-    pub plays_declined : {c : Call F} (e : Refusal) → Declines (meaning x) x.start x.numbers t e
-        → Plays c x t (Reply.Declined e) x t
-    plays_declined {c} e declines = record {
-      rule = refl;
-      start = refl;
-      carries = carries_declined _ _ _ _ c e x.kept declines;
-    }
+    -- where the check's refusal is handed on
+    pub plays_declined : {c : Call F} (r : Answer F) (e : Refusal) → IsErrAnd r (λ y. y ≡ e)
+        → Declines (meaning x) x.start x.numbers t e → Plays c x t r x t
+    plays_declined {c} r e is declines =
+        let p = err_from_is_err_and r is in
+        rw (p.1, p.2)
+        (record {
+          rule = refl;
+          start = refl;
+          carries = carries_declined _ _ _ _ c e x.kept declines;
+        })
 
-    module _ {c : Call F} {r : Reply F} {n' : Numbers} {t' : Tables F} where
+    module _ {c : Call F} {r : Answer F} {n' : Numbers} {t' : Tables F} where
       pub plays_judged : (x' : Register R F g) → x'.rule ≡ x.rule → x'.start ≡ x.start → x'.numbers ≡ n'
           → Checked (meaning x) x.start x.numbers t → SameLengths t t'
           → Does x.start (judged (meaning x) (view x.start x.numbers t) c) x.numbers t r n' t' → Plays c x t r x' t'

@@ -11,7 +11,7 @@ use Rattle.model.specs.declared.marks.RelayMark.{RelayMark}
 use Rattle.model.specs.declared.messages.Message.{Message}
 use Rattle.model.specs.declared.journal.Operation.{Operation}
 use Rattle.model.specs.declared.calls.Call.{Call}
-use Rattle.model.specs.declared.answers.Reply.{Reply}
+use Rattle.model.specs.Answers.{Answer}
 use Rattle.model.specs.State.{State}
 use Rattle.model.specs.Sound.{sound}
 use Rattle.model.specs.Steps.{Outcome, step}
@@ -80,7 +80,7 @@ refilled_are o head room l long =
 
 -- A call behind the check, over the lists that a cluster lent.
 module _ {R F : Type 0} {g : Ghosts R} (x : Cluster R F g) (c : Call F) (lent back : Lent F) (is : lent ≡ lists x.tables)
-    (long : AsLong x.tables back) (r : Reply F) (head : ℕ) (n' : Numbers)
+    (long : AsLong x.tables back) (r : Answer F) (head : ℕ) (n' : Numbers)
     (within : head + x.register.numbers.message_room ≤ length lent.queue)
     (did : Advances x.register.start
     (judged (rule_for g x.register.rule x.register.numbers.replicas)

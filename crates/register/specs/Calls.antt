@@ -5,7 +5,7 @@ use Rattle.quorum.specs.Laws.{Lawful}
 use Rattle.quorum.specs.Meaning.{rule_of}
 use Rattle.quorum.specs.declared.system.QuorumSystem.{Ghosts}
 use Rattle.model.specs.declared.calls.Call.{Call}
-use Rattle.model.specs.declared.answers.Reply.{Reply}
+use Rattle.model.specs.Answers.{Answer}
 use Rattle.model.specs.declared.answers.Refusal.{Refusal}
 use Rattle.model.specs.Sound.{sound}
 use Rattle.model.specs.Steps.{Outcome, declined, step}
@@ -31,7 +31,7 @@ answered rule start n t c =
 
 -- The answer and every place of the tables are what the call comes to; each history that led to the register becomes longer
 -- by the call's event, and under a lawful rule the longer one is served.
-pub record CarriesAnswered {F : Type 0} (rule : Rule) (start : F) (c : Call F) (n : Numbers) (t : Tables F) (r : Reply F)
+pub record CarriesAnswered {F : Type 0} (rule : Rule) (start : F) (c : Call F) (n : Numbers) (t : Tables F) (r : Answer F)
     (n' : Numbers) (t' : Tables F) : Type 0 where
   pub does : Does start (answered rule start n t c) n t r n' t'
   pub grows : (h : History F) → Grown rule start h n t → Grown rule start (h ++ called rule start n t c ∷ []) n' t'
@@ -45,7 +45,7 @@ abbrev pub meaning : {R F : Type 0} {g : Ghosts R} → Register R F g → Rule
 meaning {g = g} x = rule_of g x.rule
 
 -- A call on the register: it keeps its rule and its starting figure, and carries the claims.
-pub record Plays {R F : Type 0} {g : Ghosts R} (c : Call F) (x : Register R F g) (t : Tables F) (r : Reply F)
+pub record Plays {R F : Type 0} {g : Ghosts R} (c : Call F) (x : Register R F g) (t : Tables F) (r : Answer F)
     (x' : Register R F g) (t' : Tables F) : Type 0 where
   pub rule : x'.rule ≡ x.rule
   pub start : x'.start ≡ x.start

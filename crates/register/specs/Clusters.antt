@@ -4,7 +4,7 @@ use Rattle.quorum.specs.Sets.{Rule}
 use Rattle.quorum.specs.Laws.{Lawful}
 use Rattle.quorum.specs.declared.system.QuorumSystem.{Ghosts}
 use Rattle.model.specs.declared.calls.Call.{Call}
-use Rattle.model.specs.declared.answers.Reply.{Reply}
+use Rattle.model.specs.Answers.{Answer}
 use Rattle.model.specs.State.{State, fresh, new_replica, new_reader, new_mark}
 use Rattle.model.specs.Steps.{step}
 use Rattle.model.specs.History.{History, event, Grows}
@@ -62,7 +62,7 @@ Founded d message_room journal_room (Err u) =
 
 -- A call is the model's step: its answer, and what it leaves. Each history that led to the register becomes longer by its
 -- event, and under a lawful rule the longer one is served.
-pub record Steps {R F : Type 0} {g : Ghosts R} (c : Call F) (x : Cluster R F g) (r : Reply F) (x' : Cluster R F g) : Type 0 where
+pub record Steps {R F : Type 0} {g : Ghosts R} (c : Call F) (x : Cluster R F g) (r : Answer F) (x' : Cluster R F g) : Type 0 where
   pub rule : cluster_rule x' ≡ cluster_rule x
   pub start : x'.register.start ≡ x.register.start
   pub answer : r ≡ (step (cluster_rule x) (cluster_state x) c).reply

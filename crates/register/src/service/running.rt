@@ -3,7 +3,7 @@ ghost use Rattle.tables.specs.View.{tables};
 ghost use Rattle.register.specs.Runs.{Runs};
 
 use super::Register;
-use model::{Call, Message, Operation, Reader, RelayMark, Replica, Reply};
+use model::{Call, Message, Operation, Reader, Refusal, RelayMark, Replica, Reply};
 use quorum::QuorumSystem;
 use std::alloc::{AllocError, Global};
 
@@ -18,7 +18,7 @@ impl<R: QuorumSystem, F: Copy> Register<R, F> {
         messages: &mut [Message<F>],
         journal: &mut [Operation<F>],
         calls: &[Call<F>],
-    ) -> Result<Vec<Reply<F>>, AllocError>
+    ) -> Result<Vec<Result<Reply<F>, Refusal>>, AllocError>
         ensures { MatchResult result
             (λ replies. Runs calls.now
             self.old (tables replicas.old readers.old marks.old messages.old journal.old)

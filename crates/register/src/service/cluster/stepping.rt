@@ -1,13 +1,13 @@
 ghost use Rattle.register.specs.Clusters.{Steps};
 
 use super::Cluster;
-use model::{Call, Reply};
+use model::{Call, Refusal, Reply};
 use quorum::QuorumSystem;
 use steps::step_queued;
 
 impl<R: QuorumSystem, F: Copy> Cluster<R, F> {
     /// Does any of the six calls.
-    pub fn call(&mut self, call: Call<F>) -> Reply<F>
+    pub fn call(&mut self, call: Call<F>) -> Result<Reply<F>, Refusal>
         ensures { Steps call self.old result self.new }
     {
         let Cluster { register, tables } = self;

@@ -2,8 +2,8 @@ use Rattle.std.proofs.Common.{refl, ◌∙◌}
 use Rattle.register.proofs.Calling.{plays_declined, plays_sized}
 use Rattle.register.proofs.service.Register.call.Goals as goal
 
-pub returns-in-Some : goal.returns-in-Some
-returns-in-Some g c = plays_declined _ _ c.in-Some.ensures
+pub returns-in_err-check : goal.returns-in_err-check
+returns-in_err-check g c = plays_declined _ _ _ c.from_residual.ensures.1 c.in_err-check.ensures
 
 pub invariant_of-self : goal.invariant_of-self
 invariant_of-self g c =
@@ -12,7 +12,7 @@ invariant_of-self g c =
 
 pub returns : goal.returns
 returns g c =
-    plays_sized _ _ refl refl refl c.in-None.ensures
+    plays_sized _ _ refl refl refl c.in_ok-check.ensures
     (record {
       replicas = c.step.auto.replicas;
       readers = c.step.auto.readers;

@@ -1,7 +1,7 @@
 use Rattle.std.proofs.Common.{sym, arith}
 use Rattle.register.proofs.Calling.{fits_tells, declines_lengths, declines_unsound}
 use Rattle.tables.specs.View.{tables}
-use Rattle.register.proofs.service.Register.refusal.Goals as goal
+use Rattle.register.proofs.service.Register.check.Goals as goal
 
 pub returns-then-not-lengths_fit : goal.returns-then-not-lengths_fit
 returns-then-not-lengths_fit g c = declines_lengths _ _ _ _ (sym c.if-not-lengths_fit.ensures)
