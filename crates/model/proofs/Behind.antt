@@ -1,5 +1,5 @@
 -- No waiting message, replica or reader's best has a stamp above the writer's last, whatever the call and the tables.
-use Rattle.std.proofs.Common.{◌≡◌, ℕ, ◌<◌, ◌≤◌, not, ◌&&◌, ◌||◌, eqb, ltb, [], ◌∷◌, Some, None, Option, refl, arith}
+use Rattle.std.proofs.Common.{◌≡◌, ℕ, ◌<◌, ◌≤◌, not, ◌&&◌, ◌||◌, eqb, ltb, [], ◌∷◌, Some, None, Option, refl, arith, Ok, Err}
 use Rattle.std.specs.List.{AllByRecursion as All}
 use Rattle.std.proofs.ByRecursion.{All-weaker, All-append, All-set}
 use Rattle.std.proofs.lemmas.Bool.{cond_both}
@@ -13,7 +13,6 @@ use Rattle.model.specs.declared.reader.Reader.{Reader}
 use Rattle.model.specs.declared.marks.RelayMark.{RelayMark}
 use Rattle.model.specs.declared.messages.Message.{Message}
 use Rattle.model.specs.declared.calls.Call.{Call}
-use Rattle.model.specs.declared.answers.Reply.{Reply}
 use Rattle.model.specs.declared.answers.Refusal.{Refusal}
 use Rattle.model.specs.Stamps.{Stamp, rank, no_stamp, next_stamp}
 use Rattle.model.specs.State.{State, Held, index, unused, new_replica, new_reader, no_message, fresh, replica, reader}
@@ -29,6 +28,7 @@ use Rattle.model.specs.Steps.{step}
 use Rattle.model.proofs.Ranks.{rank_start, rank_next}
 use Rattle.model.proofs.Lists.{all_without, all_to_all}
 use Rattle.model.proofs.Items.{all_alike, all_read}
+use Rattle.model.specs.Answers.{Answer}
 
 -- The stamp ranks no higher than top.
 abbrev pub Low : ℕ → Stamp → Type 0
@@ -55,15 +55,13 @@ module _ {F : Type 0} where
     pub replicas_low : All (LowReplica (rank s.writer.last)) s.replicas
     pub readers_low : All (LowReader (rank s.writer.last)) s.readers
 
-  abbrev pub Granted : Reply F → Type 0
-  Granted (Reply.Started n) = Unit {0}
-  Granted (Reply.Finished n t f sent exchanges) = Unit {0}
-  Granted Reply.Done = Unit {0}
-  Granted (Reply.Declined e) = ⊥
+  abbrev pub Granted : Answer F → Type 0
+  Granted (Ok r) = Unit {0}
+  Granted (Err e) = ⊥
 
   -- What a step leaves is behind, so is what it sends, and it is not declined.
   abbrev pub Lags : Effect F → Type 0
-  Lags e = Behind e.next × All (LowMessage (last e.next)) e.sent × Granted e.reply
+  Lags e = Behind e.next × All (LowMessage (last e.next)) e.sent
 
   all_low_to_all : (top size : ℕ) (kind : MessageKind) (n : ℕ) (from : Party) (x : Held F) → Low top x.stamp
       → All (LowMessage top) (to_all size kind n from x)
@@ -137,27 +135,26 @@ module _ {F : Type 0} where
         alike (with_reader s r (reader_freed d)) _
             (with_reader_behind r (reader_freed d) low) refl refl refl refl,
         tt,
-        tt,
       )
 
       last_lags : (exchanges : ℕ) → Lags (after_last rule s r d exchanges)
       last_lags exchanges =
           cond_both (rule.round (bits d.replies)) _ _ Lags (λ _. finish_lags exchanges)
-          (λ _. (with_reader_behind r d low, tt, tt))
+          (λ _. (with_reader_behind r d low, tt))
 
       have_lags : Lags (after_have rule s r d)
       have_lags =
           cond_both (rule.round (bits d.replies)) _ _ Lags
           (λ _. cond_both (is_quick (line s d.operation).kind && rule.hold (bits d.holders)) _ _ Lags
           (λ _. finish_lags 2)
-          (λ _. (with_reader_behind r (placing d) low, all_low_to_all (last s) rule.size MessageKind.Back d.operation (Party.Reader r) (best d) low, tt)))
-          (λ _. (with_reader_behind r d low, tt, tt))
+          (λ _. (with_reader_behind r (placing d) low, all_low_to_all (last s) rule.size MessageKind.Back d.operation (Party.Reader r) (best d) low)))
+          (λ _. (with_reader_behind r d low, tt))
 
     -- Message m
 
     module _ (rule : Rule) (m : Message F) (low : LowMessage (last s) m) where
       quiet_lags : Lags (quiet s)
-      quiet_lags = (behind, tt, tt)
+      quiet_lags = (behind, tt)
 
       taken_low : (c : ℕ) → Low (last s) (took (held s c) (carried m)).stamp
       taken_low c = took_low (last s) (held s c) (carried m) (held_low c) low
@@ -165,19 +162,19 @@ module _ {F : Type 0} where
       offer_lags : (ack : MessageKind) → Lags (on_offer s m ack)
       unfolding on_offer
       offer_lags ack =
-          (with_held_behind (index m.receiver) _ (taken_low (index m.receiver)), (start_low (last s), tt), tt)
+          (with_held_behind (index m.receiver) _ (taken_low (index m.receiver)), (start_low (last s), tt))
 
       put_ack_lags : Lags (on_put_ack rule s m)
       unfolding on_put_ack
       put_ack_lags =
           cond_both (not (eqb s.writer.operation m.operation)) _ _ Lags (λ _. quiet_lags)
           (λ _. cond_both (rule.round (bits (joined s.writer.acknowledgers (index m.sender)))) _ _ Lags
-          (λ _. (alike s _ behind refl refl refl refl, tt, tt))
-          (λ _. (alike s _ behind refl refl refl refl, tt, tt)))
+          (λ _. (alike s _ behind refl refl refl refl, tt))
+          (λ _. (alike s _ behind refl refl refl refl, tt)))
 
       query_lags : Lags (on_query s m)
       unfolding on_query
-      query_lags = (behind, (held_low (index m.receiver), tt), tt)
+      query_lags = (behind, (held_low (index m.receiver), tt))
 
       heard_lags : Lags (on_have rule s m)
       unfolding on_have
@@ -211,7 +208,6 @@ module _ {F : Type 0} where
         behind,
         all_low_to_all (last s) rule.size MessageKind.Relay m.operation m.receiver _
             (held_low (index m.receiver)),
-        tt,
       )
 
       relay_lags : Lags (on_relay rule s m)
@@ -222,10 +218,10 @@ module _ {F : Type 0} where
           let k : RelayMark = mark s c (index (line s m.operation).owner) in
           let n : RelayMark = marked k m.operation (index m.sender) in
           let taken : Behind (with_held s c x) = with_held_behind c x (taken_low c) in
-          cond_both (ltb m.operation k.operation) _ _ Lags (λ _. (taken, tt, tt))
+          cond_both (ltb m.operation k.operation) _ _ Lags (λ _. (taken, tt))
           (λ _. cond_both (rule.round (bits n.relayers) && not n.replied) _ _ Lags
-          (λ _. (alike (with_held s c x) _ taken refl refl refl refl, (taken_low c, tt), tt))
-          (λ _. (alike (with_held s c x) _ taken refl refl refl refl, tt, tt)))
+          (λ _. (alike (with_held s c x) _ taken refl refl refl refl, (taken_low c, tt)))
+          (λ _. (alike (with_held s c x) _ taken refl refl refl refl, tt)))
 
       on_lags : (kind : MessageKind) → Lags (on rule kind s m)
       unfolding on
@@ -244,7 +240,7 @@ module _ {F : Type 0} where
       received_lags = cond_both (halted s m.receiver) _ _ Lags (λ _. quiet_lags) (λ _. on_lags m.kind)
 
   posted_behind : (e : Effect F) → Lags e → Behind (posted e.next e.sent)
-  posted_behind e (behind, low, granted) = record {
+  posted_behind e (behind, low) = record {
     messages_low = All-append (LowMessage (last e.next)) e.next.messages e.sent behind.messages_low low;
     replicas_low = behind.replicas_low;
     readers_low = behind.readers_low;
@@ -268,7 +264,6 @@ module _ {F : Type 0} where
                 behind.readers_low;
           },
           all_low_to_all top rule.size MessageKind.Put (next_number s) Party.Writer (to_write s f) (omega arith),
-          tt,
         )
 
     read_lags : (r : ℕ) (kind : ReadKind) → Lags (read rule s r kind)
@@ -278,7 +273,6 @@ module _ {F : Type 0} where
           with_reader_behind t (alike s t behind refl refl refl refl) r _ (start_low (last s)),
           all_low_to_all (last s) rule.size (opening_message kind) (next_number s) (Party.Reader r)
               (unused s.start) (start_low (last s)),
-          tt,
         )
 
     without_behind : (place : ℕ) → Behind (without_message s place)
@@ -315,9 +309,9 @@ module _ {F : Type 0} where
 
     pub done_behind : (c : Call F) → Behind (done rule s c).next × Granted (done rule s c).reply
     unfolding done dropped duplicated halt
-    done_behind (Call.Write f) = (posted_behind (write rule s f) (write_lags f), (write_lags f).2)
-    done_behind (Call.Read r kind) = (posted_behind (read rule s r kind) (read_lags r kind), (read_lags r kind).2)
-    done_behind (Call.Deliver place) = (posted_behind (deliver rule s place) (deliver_lags place), (deliver_lags place).2)
+    done_behind (Call.Write f) = (posted_behind (write rule s f) (write_lags f), tt)
+    done_behind (Call.Read r kind) = (posted_behind (read rule s r kind) (read_lags r kind), tt)
+    done_behind (Call.Deliver place) = (posted_behind (deliver rule s place) (deliver_lags place), tt)
     done_behind (Call.Drop place) = (without_behind place, tt)
     done_behind (Call.Duplicate place) = (duplicated_behind place, tt)
     done_behind (Call.Halt p) = (stopped_behind p, tt)

@@ -1,5 +1,5 @@
 -- An operation that finishes keeps what is known.
-use Rattle.std.proofs.Common.{◌≡◌, ℕ, pred, ◌/◌, ◌<◌, ◌≤◌, ◌⊎◌, List, [], ◌∷◌, ◌++◌, length, get_or, set, sym, refl, ap, ◌∙◌, subst, inl, inr, arith, length-set}
+use Rattle.std.proofs.Common.{◌≡◌, ℕ, pred, ◌/◌, ◌<◌, ◌≤◌, ◌⊎◌, List, [], ◌∷◌, ◌++◌, length, get_or, set, sym, refl, ap, ◌∙◌, subst, inl, inr, arith, length-set, Ok}
 use Rattle.std.specs.List.{AllByRecursion as All}
 use Rattle.std.proofs.lemmas.Bool.{cases_eq}
 use Rattle.quorum.specs.Sets.{Rule}
@@ -125,7 +125,7 @@ module _ {F : Type 0} (q : Rule) (R : ℕ) (law : Lawful q) (start : F) (w : Wor
             ])
 
         pub ends : (fin : ℕ) (ev : Event F) (sent exchanges : ℕ) → ev.sent ≡ []
-            → ev.reply ≡ Reply.Finished j x.stamp x.figure sent exchanges → (place : ℕ)
+            → ev.reply ≡ Ok (Reply.Finished j x.stamp x.figure sent exchanges) → (place : ℕ)
             → ev.call ≡ Call.Deliver place
             → length d ≡ R
             → ((k : ℕ) → InPhase q v₃ k (get_or d k (new_reader s.start)).phase (get_or d k (new_reader s.start)))
@@ -172,7 +172,7 @@ module _ {F : Type 0} (q : Rule) (R : ℕ) (law : Lawful q) (start : F) (w : Wor
               begun =
                   put_each
                   (λ i o. 1 ≤ o.stage → (1 ≤ (w.ops i).stage) ⊎
-                  ((o.begun ≡ length h) × (ev.reply ≡ Reply.Started i)))
+                  ((o.begun ≡ length h) × (ev.reply ≡ Ok (Reply.Started i))))
                   w.ops j E (λ _. inl born) (λ i _ l. inl l);
               ended =
                   put_each
@@ -180,7 +180,7 @@ module _ {F : Type 0} (q : Rule) (R : ℕ) (law : Lawful q) (start : F) (w : Wor
                   ((o.ended ≡ length h) × Closes ev i (w.value o.aim)))
                   w.ops j E
                   (λ _. inr
-                  (g.now_is, (place, sent, exchanges, call_is, reply_is ∙ ap (λ y. Reply.Finished j y.stamp y.figure sent exchanges) value_is)))
+                  (g.now_is, (place, sent, exchanges, call_is, reply_is ∙ ap (λ y. Ok (Reply.Finished j y.stamp y.figure sent exchanges)) value_is)))
                   (λ i _ l. inl l);
             })
 

@@ -1,5 +1,5 @@
 -- The steps at work. The answers and the last tables of each run are those of a program that was written apart from the steps.
-use Rattle.std.proofs.Common.{◌≡◌, ℕ, Bool, true, false, List, [], ◌∷◌, refl}
+use Rattle.std.proofs.Common.{◌≡◌, ℕ, Bool, true, false, List, [], ◌∷◌, refl, Ok, Err}
 use Rattle.quorum.specs.Sets.{Rule}
 use Rattle.quorum.specs.Families.{count_rule, grid_rule, lead_rule}
 use Rattle.model.specs.declared.parties.Party.{Party}
@@ -19,6 +19,7 @@ use Rattle.model.specs.State.{State, new_message, fresh}
 use Rattle.model.specs.Records.{reader_now}
 use Rattle.model.specs.History.{Run, run, replies}
 use Rattle.model.proofs.Opened.{opened}
+use Rattle.model.specs.Answers.{Answer}
 
 -- The tables after a run, a row to a record, its fields in order.
 
@@ -48,7 +49,7 @@ entry kind owner started finished exchanges stamp figure sent = record {
 }
 
 -- The answers of a list of calls on a new register, and the state after them.
-played : {F : Type 0} → Rule → F → ℕ → ℕ → ℕ → List (Call F) → List (Reply F) × State F
+played : {F : Type 0} → Rule → F → ℕ → ℕ → ℕ → List (Call F) → List (Answer F) × State F
 unfolding opened
 played {F} rule start readers message_room journal_room calls =
     let r : Run F = run rule (fresh rule start readers message_room journal_room) calls in
@@ -60,10 +61,10 @@ listing_calls =
     Call.Write (1250, 480) ∷ Call.Deliver 0 ∷ Call.Read 0 ReadKind.Quick ∷ Call.Deliver 3 ∷ Call.Deliver 3 ∷ Call.Deliver 4 ∷ Call.Deliver 4 ∷
     Call.Deliver 4 ∷ Call.Deliver 4 ∷ Call.Deliver 5 ∷ Call.Deliver 5 ∷ Call.Write (1260, 490) ∷ []
 
-listing_replies : List (Reply (ℕ × ℕ))
+listing_replies : List (Answer (ℕ × ℕ))
 listing_replies =
-    Reply.Started 1 ∷ Reply.Done ∷ Reply.Started 2 ∷ Reply.Done ∷ Reply.Done ∷ Reply.Done ∷ Reply.Done ∷ Reply.Done ∷ Reply.Done ∷ Reply.Done ∷
-    Reply.Finished 2 1 (1250, 480) 10 4 ∷ Reply.Declined Refusal.Busy ∷ []
+    Ok (Reply.Started 1) ∷ Ok Reply.Done ∷ Ok (Reply.Started 2) ∷ Ok Reply.Done ∷ Ok Reply.Done ∷ Ok Reply.Done ∷ Ok Reply.Done ∷ Ok Reply.Done ∷ Ok Reply.Done ∷ Ok Reply.Done ∷
+    Ok (Reply.Finished 2 1 (1250, 480) 10 4) ∷ Err Refusal.Busy ∷ []
 
 listing_end : State (ℕ × ℕ)
 listing_end = record {
@@ -111,9 +112,9 @@ lone_calls : List (Call ℕ)
 lone_calls =
     Call.Read 0 ReadKind.Relay ∷ Call.Deliver 0 ∷ Call.Deliver 0 ∷ Call.Deliver 0 ∷ []
 
-lone_replies : List (Reply ℕ)
+lone_replies : List (Answer ℕ)
 lone_replies =
-    Reply.Started 1 ∷ Reply.Done ∷ Reply.Done ∷ Reply.Finished 1 0 5 3 3 ∷ []
+    Ok (Reply.Started 1) ∷ Ok Reply.Done ∷ Ok Reply.Done ∷ Ok (Reply.Finished 1 0 5 3 3) ∷ []
 
 lone_end : State ℕ
 lone_end = record {
@@ -146,9 +147,9 @@ cramped_calls : List (Call ℕ)
 cramped_calls =
     Call.Write 7 ∷ Call.Read 0 ReadKind.Quick ∷ Call.Deliver 0 ∷ []
 
-cramped_replies : List (Reply ℕ)
+cramped_replies : List (Answer ℕ)
 cramped_replies =
-    Reply.Started 1 ∷ Reply.Declined Refusal.NoRoom ∷ Reply.Done ∷ []
+    Ok (Reply.Started 1) ∷ Err Refusal.NoRoom ∷ Ok Reply.Done ∷ []
 
 cramped_end : State ℕ
 cramped_end = record {
@@ -189,9 +190,9 @@ full_calls : List (Call ℕ)
 full_calls =
     Call.Write 7 ∷ Call.Read 0 ReadKind.Quick ∷ Call.Deliver 0 ∷ Call.Duplicate 0 ∷ Call.Drop 1 ∷ Call.Duplicate 0 ∷ Call.Duplicate 0 ∷ []
 
-full_replies : List (Reply ℕ)
+full_replies : List (Answer ℕ)
 full_replies =
-    Reply.Started 1 ∷ Reply.Started 2 ∷ Reply.Done ∷ Reply.Declined Refusal.NoRoom ∷ Reply.Done ∷ Reply.Done ∷ Reply.Declined Refusal.NoRoom ∷ []
+    Ok (Reply.Started 1) ∷ Ok (Reply.Started 2) ∷ Ok Reply.Done ∷ Err Refusal.NoRoom ∷ Ok Reply.Done ∷ Ok Reply.Done ∷ Err Refusal.NoRoom ∷ []
 
 full_end : State ℕ
 full_end = record {
@@ -241,13 +242,13 @@ repeated_calls =
     Call.Deliver 4 ∷ Call.Deliver 4 ∷ Call.Deliver 4 ∷ Call.Duplicate 12 ∷ Call.Deliver 12 ∷ Call.Deliver 13 ∷ Call.Deliver 12 ∷ Call.Deliver 2 ∷
     Call.Deliver 2 ∷ Call.Write 101 ∷ Call.Halt Party.Writer ∷ Call.Deliver 10 ∷ []
 
-repeated_replies : List (Reply ℕ)
+repeated_replies : List (Answer ℕ)
 repeated_replies =
-    Reply.Started 1 ∷ Reply.Started 2 ∷ Reply.Done ∷ Reply.Done ∷ Reply.Done ∷ Reply.Done ∷ Reply.Done ∷ Reply.Done ∷ Reply.Done ∷ Reply.Done ∷
-    Reply.Done ∷ Reply.Started 3 ∷ Reply.Done ∷ Reply.Done ∷ Reply.Done ∷ Reply.Done ∷ Reply.Done ∷ Reply.Done ∷ Reply.Done ∷ Reply.Done ∷ Reply.Done ∷
-    Reply.Done ∷ Reply.Done ∷ Reply.Done ∷ Reply.Finished 3 1 100 14 3 ∷ Reply.Started 4 ∷ Reply.Done ∷ Reply.Done ∷ Reply.Done ∷ Reply.Done ∷
-    Reply.Done ∷ Reply.Done ∷ Reply.Done ∷ Reply.Done ∷ Reply.Done ∷ Reply.Done ∷ Reply.Finished 2 1 100 11 4 ∷ Reply.Done ∷ Reply.Finished 1 1 100 5 2 ∷
-    Reply.Started 5 ∷ Reply.Done ∷ Reply.Done ∷ []
+    Ok (Reply.Started 1) ∷ Ok (Reply.Started 2) ∷ Ok Reply.Done ∷ Ok Reply.Done ∷ Ok Reply.Done ∷ Ok Reply.Done ∷ Ok Reply.Done ∷ Ok Reply.Done ∷ Ok Reply.Done ∷ Ok Reply.Done ∷
+    Ok Reply.Done ∷ Ok (Reply.Started 3) ∷ Ok Reply.Done ∷ Ok Reply.Done ∷ Ok Reply.Done ∷ Ok Reply.Done ∷ Ok Reply.Done ∷ Ok Reply.Done ∷ Ok Reply.Done ∷ Ok Reply.Done ∷ Ok Reply.Done ∷
+    Ok Reply.Done ∷ Ok Reply.Done ∷ Ok Reply.Done ∷ Ok (Reply.Finished 3 1 100 14 3) ∷ Ok (Reply.Started 4) ∷ Ok Reply.Done ∷ Ok Reply.Done ∷ Ok Reply.Done ∷ Ok Reply.Done ∷
+    Ok Reply.Done ∷ Ok Reply.Done ∷ Ok Reply.Done ∷ Ok Reply.Done ∷ Ok Reply.Done ∷ Ok Reply.Done ∷ Ok (Reply.Finished 2 1 100 11 4) ∷ Ok Reply.Done ∷ Ok (Reply.Finished 1 1 100 5 2) ∷
+    Ok (Reply.Started 5) ∷ Ok Reply.Done ∷ Ok Reply.Done ∷ []
 
 repeated_end : State ℕ
 repeated_end = record {
@@ -311,13 +312,13 @@ by_count_calls =
     Call.Halt (Party.Replica 0) ∷ Call.Deliver 0 ∷ Call.Deliver 4 ∷ Call.Deliver 7 ∷ Call.Deliver 0 ∷ Call.Deliver 5 ∷ Call.Deliver 0 ∷ Call.Deliver 0 ∷
     []
 
-by_count_replies : List (Reply ℕ)
+by_count_replies : List (Answer ℕ)
 by_count_replies =
-    Reply.Started 1 ∷ Reply.Done ∷ Reply.Done ∷ Reply.Started 2 ∷ Reply.Done ∷ Reply.Done ∷ Reply.Done ∷ Reply.Finished 1 1 100 6 2 ∷ Reply.Done ∷
-    Reply.Done ∷ Reply.Started 3 ∷ Reply.Done ∷ Reply.Done ∷ Reply.Done ∷ Reply.Done ∷ Reply.Done ∷ Reply.Done ∷ Reply.Done ∷ Reply.Done ∷ Reply.Done ∷
-    Reply.Done ∷ Reply.Finished 3 1 100 6 2 ∷ Reply.Done ∷ Reply.Finished 2 1 100 11 4 ∷ Reply.Done ∷ Reply.Started 4 ∷ Reply.Done ∷ Reply.Started 5 ∷
-    Reply.Declined Refusal.Busy ∷ Reply.Done ∷ Reply.Done ∷ Reply.Done ∷ Reply.Done ∷ Reply.Done ∷ Reply.Done ∷ Reply.Done ∷ Reply.Done ∷ Reply.Done ∷
-    Reply.Done ∷ Reply.Done ∷ []
+    Ok (Reply.Started 1) ∷ Ok Reply.Done ∷ Ok Reply.Done ∷ Ok (Reply.Started 2) ∷ Ok Reply.Done ∷ Ok Reply.Done ∷ Ok Reply.Done ∷ Ok (Reply.Finished 1 1 100 6 2) ∷ Ok Reply.Done ∷
+    Ok Reply.Done ∷ Ok (Reply.Started 3) ∷ Ok Reply.Done ∷ Ok Reply.Done ∷ Ok Reply.Done ∷ Ok Reply.Done ∷ Ok Reply.Done ∷ Ok Reply.Done ∷ Ok Reply.Done ∷ Ok Reply.Done ∷ Ok Reply.Done ∷
+    Ok Reply.Done ∷ Ok (Reply.Finished 3 1 100 6 2) ∷ Ok Reply.Done ∷ Ok (Reply.Finished 2 1 100 11 4) ∷ Ok Reply.Done ∷ Ok (Reply.Started 4) ∷ Ok Reply.Done ∷ Ok (Reply.Started 5) ∷
+    Err Refusal.Busy ∷ Ok Reply.Done ∷ Ok Reply.Done ∷ Ok Reply.Done ∷ Ok Reply.Done ∷ Ok Reply.Done ∷ Ok Reply.Done ∷ Ok Reply.Done ∷ Ok Reply.Done ∷ Ok Reply.Done ∷
+    Ok Reply.Done ∷ Ok Reply.Done ∷ []
 
 by_count_end : State ℕ
 by_count_end = record {
@@ -378,13 +379,13 @@ by_grid_calls =
     Call.Deliver 1 ∷ Call.Deliver 0 ∷ Call.Read 1 ReadKind.Relay ∷ Call.Deliver 0 ∷ Call.Deliver 0 ∷ Call.Deliver 9 ∷ Call.Read 0 ReadKind.Settled ∷
     Call.Write 103 ∷ Call.Deliver 0 ∷ []
 
-by_grid_replies : List (Reply ℕ)
+by_grid_replies : List (Answer ℕ)
 by_grid_replies =
-    Reply.Started 1 ∷ Reply.Done ∷ Reply.Done ∷ Reply.Done ∷ Reply.Done ∷ Reply.Done ∷ Reply.Done ∷ Reply.Done ∷ Reply.Done ∷ Reply.Done ∷
-    Reply.Declined Refusal.NoMessage ∷ Reply.Done ∷ Reply.Done ∷ Reply.Started 2 ∷ Reply.Done ∷ Reply.Done ∷ Reply.Finished 1 1 100 9 2 ∷ Reply.Done ∷
-    Reply.Started 3 ∷ Reply.Done ∷ Reply.Done ∷ Reply.Done ∷ Reply.Done ∷ Reply.Done ∷ Reply.Done ∷ Reply.Done ∷ Reply.Done ∷
-    Reply.Declined Refusal.Busy ∷ Reply.Done ∷ Reply.Done ∷ Reply.Done ∷ Reply.Finished 3 2 101 7 2 ∷ Reply.Finished 2 1 100 7 2 ∷ Reply.Started 4 ∷
-    Reply.Done ∷ Reply.Done ∷ Reply.Done ∷ Reply.Started 5 ∷ Reply.Declined Refusal.JournalFull ∷ Reply.Done ∷ []
+    Ok (Reply.Started 1) ∷ Ok Reply.Done ∷ Ok Reply.Done ∷ Ok Reply.Done ∷ Ok Reply.Done ∷ Ok Reply.Done ∷ Ok Reply.Done ∷ Ok Reply.Done ∷ Ok Reply.Done ∷ Ok Reply.Done ∷
+    Err Refusal.NoMessage ∷ Ok Reply.Done ∷ Ok Reply.Done ∷ Ok (Reply.Started 2) ∷ Ok Reply.Done ∷ Ok Reply.Done ∷ Ok (Reply.Finished 1 1 100 9 2) ∷ Ok Reply.Done ∷
+    Ok (Reply.Started 3) ∷ Ok Reply.Done ∷ Ok Reply.Done ∷ Ok Reply.Done ∷ Ok Reply.Done ∷ Ok Reply.Done ∷ Ok Reply.Done ∷ Ok Reply.Done ∷ Ok Reply.Done ∷
+    Err Refusal.Busy ∷ Ok Reply.Done ∷ Ok Reply.Done ∷ Ok Reply.Done ∷ Ok (Reply.Finished 3 2 101 7 2) ∷ Ok (Reply.Finished 2 1 100 7 2) ∷ Ok (Reply.Started 4) ∷
+    Ok Reply.Done ∷ Ok Reply.Done ∷ Ok Reply.Done ∷ Ok (Reply.Started 5) ∷ Err Refusal.JournalFull ∷ Ok Reply.Done ∷ []
 
 by_grid_end : State ℕ
 by_grid_end = record {
@@ -450,13 +451,13 @@ by_lead_calls =
     Call.Deliver 0 ∷ Call.Duplicate 2 ∷ Call.Duplicate 1 ∷ Call.Deliver 0 ∷ Call.Drop 1 ∷ Call.Deliver 0 ∷ Call.Read 0 ReadKind.Settled ∷
     Call.Deliver 0 ∷ Call.Deliver 2 ∷ []
 
-by_lead_replies : List (Reply ℕ)
+by_lead_replies : List (Answer ℕ)
 by_lead_replies =
-    Reply.Started 1 ∷ Reply.Done ∷ Reply.Declined Refusal.NoMessage ∷ Reply.Done ∷ Reply.Done ∷ Reply.Done ∷ Reply.Finished 1 1 100 6 2 ∷
-    Reply.Started 2 ∷ Reply.Started 3 ∷ Reply.Done ∷ Reply.Done ∷ Reply.Done ∷ Reply.Done ∷ Reply.Started 4 ∷ Reply.Done ∷ Reply.Done ∷ Reply.Done ∷
-    Reply.Done ∷ Reply.Done ∷ Reply.Done ∷ Reply.Done ∷ Reply.Finished 3 2 101 5 2 ∷ Reply.Done ∷ Reply.Declined Refusal.Busy ∷ Reply.Done ∷ Reply.Done ∷
-    Reply.Done ∷ Reply.Done ∷ Reply.Done ∷ Reply.Finished 4 2 101 5 2 ∷ Reply.Done ∷ Reply.Done ∷ Reply.Declined Refusal.NoMessage ∷ Reply.Done ∷
-    Reply.Done ∷ Reply.Done ∷ Reply.Finished 2 2 101 11 3 ∷ Reply.Started 5 ∷ Reply.Done ∷ Reply.Done ∷ []
+    Ok (Reply.Started 1) ∷ Ok Reply.Done ∷ Err Refusal.NoMessage ∷ Ok Reply.Done ∷ Ok Reply.Done ∷ Ok Reply.Done ∷ Ok (Reply.Finished 1 1 100 6 2) ∷
+    Ok (Reply.Started 2) ∷ Ok (Reply.Started 3) ∷ Ok Reply.Done ∷ Ok Reply.Done ∷ Ok Reply.Done ∷ Ok Reply.Done ∷ Ok (Reply.Started 4) ∷ Ok Reply.Done ∷ Ok Reply.Done ∷ Ok Reply.Done ∷
+    Ok Reply.Done ∷ Ok Reply.Done ∷ Ok Reply.Done ∷ Ok Reply.Done ∷ Ok (Reply.Finished 3 2 101 5 2) ∷ Ok Reply.Done ∷ Err Refusal.Busy ∷ Ok Reply.Done ∷ Ok Reply.Done ∷
+    Ok Reply.Done ∷ Ok Reply.Done ∷ Ok Reply.Done ∷ Ok (Reply.Finished 4 2 101 5 2) ∷ Ok Reply.Done ∷ Ok Reply.Done ∷ Err Refusal.NoMessage ∷ Ok Reply.Done ∷
+    Ok Reply.Done ∷ Ok Reply.Done ∷ Ok (Reply.Finished 2 2 101 11 3) ∷ Ok (Reply.Started 5) ∷ Ok Reply.Done ∷ Ok Reply.Done ∷ []
 
 by_lead_end : State ℕ
 by_lead_end = record {

@@ -1,5 +1,5 @@
 -- What is known of the tables and of the history, by the world; and that it stays known.
-use Rattle.std.proofs.Common.{◌≡◌, ℕ, suc, ◌+◌, ◌/◌, ◌<◌, ◌≤◌, true, false, ◌⊎◌, List, [], ◌∷◌, ◌++◌, length, get_or, sym, refl, ap, ◌∙◌, subst, inl, inr, arith}
+use Rattle.std.proofs.Common.{◌≡◌, ℕ, suc, ◌+◌, ◌/◌, ◌<◌, ◌≤◌, true, false, ◌⊎◌, List, [], ◌∷◌, ◌++◌, length, get_or, sym, refl, ap, ◌∙◌, subst, inl, inr, arith, Ok, Err}
 use Rattle.std.specs.List.{AllByRecursion as All}
 use Rattle.std.proofs.ByRecursion.{All-weaker}
 use Rattle.std.proofs.lemmas.Bool.{cases_eq}
@@ -22,6 +22,7 @@ use Rattle.model.specs.Claims.{At, In, Finishes}
 use Rattle.model.proofs.Lists.{length_push, at_old, at_new, at_cases}
 use Rattle.model.proofs.Ranks.{rank_start}
 use Rattle.model.proofs.World.{held, Op, World, Later, Written, written_later, Core}
+use Rattle.model.specs.Answers.{Answer}
 
 -- A number for each party.
 abbrev pub code : Party → ℕ
@@ -205,11 +206,11 @@ module _ {F : Type 0} where
     pub begun_is : (w.ops j).begun ≡ m
     pub opens : Opens w j c sent
 
-  abbrev pub Answers : World F → ℕ → Call F → List (Message F) → Reply F → Type 0
-  Answers w m c sent (Reply.Started j) = Begins w m j c sent
-  Answers w m c sent (Reply.Finished j s f n x) = Ends w m j (record { stamp = s; figure = f })
-  Answers w m c sent Reply.Done = Unit {0}
-  Answers w m c sent (Reply.Declined e) = Unit {0}
+  abbrev pub Answers : World F → ℕ → Call F → List (Message F) → Answer F → Type 0
+  Answers w m c sent (Ok (Reply.Started j)) = Begins w m j c sent
+  Answers w m c sent (Ok (Reply.Finished j s f n x)) = Ends w m j (record { stamp = s; figure = f })
+  Answers w m c sent (Ok Reply.Done) = Unit {0}
+  Answers w m c sent (Err e) = Unit {0}
 
   pub record Told (q : Rule) (R : ℕ) (w : World F) (m : ℕ) (e : Event F) : Type 0 where
     pub answers : Answers w m e.call e.sent e.reply
@@ -219,13 +220,13 @@ module _ {F : Type 0} where
   shown w j = w.value (w.ops j).aim
 
   abbrev pub BegunAt : History F → ℕ → ℕ → Type 0
-  BegunAt h m j = (e : Event F) × At h m e × (e.reply ≡ Reply.Started j)
+  BegunAt h m j = (e : Event F) × At h m e × (e.reply ≡ Ok (Reply.Started j))
 
   -- The event finishes operation j with x.
   abbrev pub Closes : Event F → ℕ → Held F → Type 0
   Closes e j x =
       (place : ℕ) × (sent : ℕ) × (exchanges : ℕ) × (e.call ≡ Call.Deliver place)
-      × (e.reply ≡ Reply.Finished j x.stamp x.figure sent exchanges)
+      × (e.reply ≡ Ok (Reply.Finished j x.stamp x.figure sent exchanges))
 
   pub closed_at : (h : History F) (m : ℕ) (e : Event F) (j : ℕ) (x : Held F) → At h m e → Closes e j x
       → Finishes h m j x
@@ -411,14 +412,14 @@ module _ {F : Type 0} where
       opens_later j b (Call.Duplicate place) sent x = x
       opens_later j b (Call.Halt p) sent x = x
 
-      answers_later : Core q w → (m : ℕ) (c : Call F) (sent : List (Message F)) (r : Reply F) → Answers w m c sent r
+      answers_later : Core q w → (m : ℕ) (c : Call F) (sent : List (Message F)) (r : Answer F) → Answers w m c sent r
           → Answers v m c sent r
-      answers_later g m c sent (Reply.Started j) x = let u = up.ops_up j in record {
+      answers_later g m c sent (Ok (Reply.Started j)) x = let u = up.ops_up j in record {
         stage_is = omega (arith, x.stage_is, u.stage_up);
         begun_is = u.same_begun x.stage_is ∙ x.begun_is;
         opens = opens_later j x.stage_is c sent x.opens;
       }
-      answers_later g m c sent (Reply.Finished j s f n y) x =
+      answers_later g m c sent (Ok (Reply.Finished j s f n y)) x =
           let u = up.ops_up j in
           let a = u.same_aim (omega (arith, x.stage_is)) in
           record {
@@ -429,8 +430,8 @@ module _ {F : Type 0} where
                 ap v.value a ∙ up.same_value (w.ops j).aim
                 ((g.op j).aim_written (omega (arith, x.stage_is))).low ∙ x.value_is;
           }
-      answers_later g m c sent Reply.Done x = tt
-      answers_later g m c sent (Reply.Declined e) x = tt
+      answers_later g m c sent (Ok Reply.Done) x = tt
+      answers_later g m c sent (Err e) x = tt
 
       pub told_later : Core q w → (m : ℕ) (e : Event F) → Told q R w m e → Told q R v m e
       told_later g m e x = record {
@@ -457,7 +458,7 @@ module _ {F : Type 0} where
         pub at_work : (j : ℕ) → AtWork s.start s.writer.operation s.readers j (v.ops j)
         pub told : Told q R v (length h) e
         pub begun : (j : ℕ) → 1 ≤ (v.ops j).stage
-            → (1 ≤ (w.ops j).stage) ⊎ (((v.ops j).begun ≡ length h) × (e.reply ≡ Reply.Started j))
+            → (1 ≤ (w.ops j).stage) ⊎ (((v.ops j).begun ≡ length h) × (e.reply ≡ Ok (Reply.Started j)))
         pub ended : (j : ℕ) → 3 ≤ (v.ops j).stage
             → (3 ≤ (w.ops j).stage) ⊎ (((v.ops j).ended ≡ length h) × Closes e j (shown v j))
 

@@ -1,5 +1,5 @@
 -- A reader in its first or second round keeps what is known.
-use Rattle.std.proofs.Common.{◌≡◌, ℕ, ◌/◌, ◌<◌, ◌≤◌, true, false, ◌&&◌, ◌⊎◌, List, length, get_or, set, sym, refl, ap, ◌∙◌, inl, inr, arith, length-set}
+use Rattle.std.proofs.Common.{◌≡◌, ℕ, ◌/◌, ◌<◌, ◌≤◌, true, false, ◌&&◌, ◌⊎◌, List, length, get_or, set, sym, refl, ap, ◌∙◌, inl, inr, arith, length-set, Ok}
 use Rattle.std.proofs.lemmas.Bool.{cond_both, both_ways, and_parts}
 use Rattle.quorum.specs.Sets.{Rule, bits}
 use Rattle.quorum.specs.Laws.{Lawful}
@@ -24,6 +24,7 @@ use Rattle.model.proofs.World as world
 use Rattle.model.proofs.Moves as moves
 use Rattle.model.proofs.Ends.{readers_changed, writer_changed, read_ends}
 use Rattle.model.proofs.Waits.{to_first, of_first, to_second, of_second, counts_parts, hearing_heard, hears}
+use Rattle.model.specs.Answers.{Answer}
 
 module _ {F : Type 0} (q : Rule) (R : ℕ) (law : Lawful q) (start : F) (w : World F) (s : State F) (h : History F)
     (g : Good q R start w s h) (place : ℕ) (taken : List (Message F)) where
@@ -150,7 +151,7 @@ module _ {F : Type 0} (q : Rule) (R : ℕ) (law : Lawful q) (start : F) (w : Wor
           begun =
               put_each
               (λ i o. 1 ≤ o.stage → (1 ≤ (w.ops i).stage) ⊎
-              ((o.begun ≡ length h) × (◌≡◌ {A = Reply F} Reply.Done (Reply.Started i))))
+              ((o.begun ≡ length h) × (◌≡◌ {A = Answer F} (Ok Reply.Done) (Ok (Reply.Started i)))))
               w.ops j o₄ (λ _. inl (omega (arith, x.stage_is))) (λ i _ l. inl l);
           ended =
               put_each

@@ -1,10 +1,9 @@
 -- A history leads to sound tables only, and no call of it is declined for its tables.
-use Rattle.std.proofs.Common.{◌≡◌, ℕ, Bool, true, false, not, [], ◌∷◌, ◌++◌, Some, Option, sym, refl, ap, ◌∙◌, subst, inl, inr, true≢false}
+use Rattle.std.proofs.Common.{◌≡◌, ℕ, Bool, true, false, not, [], ◌∷◌, ◌++◌, Some, Option, sym, refl, ap, ◌∙◌, subst, inl, inr, true≢false, Ok, Err}
 use Rattle.std.specs.List.{AllByRecursion as All}
 use Rattle.std.proofs.lemmas.Bool.{cond_both, le-ltb}
 use Rattle.quorum.specs.Sets.{Rule}
 use Rattle.model.specs.declared.calls.Call.{Call}
-use Rattle.model.specs.declared.answers.Reply.{Reply}
 use Rattle.model.specs.declared.answers.Refusal.{Refusal}
 use Rattle.model.specs.State.{State, message}
 use Rattle.model.specs.Sound.{sound}
@@ -15,6 +14,7 @@ use Rattle.model.specs.Reached.{ReachesSound}
 use Rattle.model.proofs.Lists.{at_cases}
 use Rattle.model.proofs.SoundCalls.{fresh_sound, sound_kept}
 use Rattle.model.proofs.Behind.{Behind, Granted, message_low, done_behind, fresh_behind, behind_kept}
+use Rattle.model.specs.Answers.{Answer}
 
 -- The refusals that tell of tables that no call leaves.
 abbrev disturbing : Refusal → Bool
@@ -28,17 +28,13 @@ disturbing Refusal.NoRoom = false
 disturbing Refusal.NoMessage = false
 disturbing Refusal.StampAhead = true
 
-abbrev Calm : {F : Type 0} → Reply F → Type 0
-Calm (Reply.Started n) = Unit {0}
-Calm (Reply.Finished n t f sent exchanges) = Unit {0}
-Calm Reply.Done = Unit {0}
-Calm (Reply.Declined e) = disturbing e ≡ false
+abbrev Calm : {F : Type 0} → Answer F → Type 0
+Calm (Ok r) = Unit {0}
+Calm (Err e) = disturbing e ≡ false
 
-granted_calm : {F : Type 0} (r : Reply F) → Granted r → Calm r
-granted_calm (Reply.Started n) g = tt
-granted_calm (Reply.Finished n t f sent exchanges) g = tt
-granted_calm Reply.Done g = tt
-granted_calm (Reply.Declined e) g = absurd g
+granted_calm : {F : Type 0} (r : Answer F) → Granted r → Calm r
+granted_calm (Ok r) g = tt
+granted_calm (Err e) g = absurd g
 
 -- A test that holds declines for another reason.
 abbrev Harmless : (Bool × Refusal) → Type 0
@@ -75,8 +71,8 @@ module _ {F : Type 0} where
         (granted_calm _ (done_behind rule s behind c).1)
 
   -- A calm answer is neither of the two.
-  calm_tells : (r : Reply F) → Calm r
-      → (r ≡ Reply.Declined Refusal.Unsound → ⊥) × (r ≡ Reply.Declined Refusal.StampAhead → ⊥)
+  calm_tells : (r : Answer F) → Calm r
+      → (r ≡ Err Refusal.Unsound → ⊥) × (r ≡ Err Refusal.StampAhead → ⊥)
   calm_tells r calm = (λ e. true≢false (subst Calm e calm), λ e. true≢false (subst Calm e calm))
 
   record Reached (rule : Rule) (h : History F) (s : State F) : Type 0 where
@@ -90,8 +86,8 @@ module _ {F : Type 0} where
     undisturbed = λ m e at. elim (at_cases h (event c (step rule s c)) m e at) [
       | inl old ↦ g.undisturbed m e old
       | inr new ↦ subst
-          (λ (x : Event F). (x.reply ≡ Reply.Declined Refusal.Unsound → ⊥) ×
-          (x.reply ≡ Reply.Declined Refusal.StampAhead → ⊥))
+          (λ (x : Event F). (x.reply ≡ Err Refusal.Unsound → ⊥) ×
+          (x.reply ≡ Err Refusal.StampAhead → ⊥))
           new.1 (calm_tells _ (step_calm rule s g.behind g.is_sound c))
     ];
     is_sound = sound_kept rule s c g.is_sound;

@@ -1,5 +1,5 @@
 -- The claims exclude what they should.
-use Rattle.std.proofs.Common.{◌≡◌, ℕ, zero, suc, ◌+◌, ◌*◌, ◌<◌, true, not, ◌⊎◌, refl, ap, inl, inr, arith}
+use Rattle.std.proofs.Common.{◌≡◌, ℕ, zero, suc, ◌+◌, ◌*◌, ◌<◌, true, not, ◌⊎◌, refl, ap, inl, inr, arith, Ok}
 use Rattle.std.specs.List.{AllByRecursion as All}
 use Rattle.std.proofs.lemmas.List.{get_or-replicate}
 use Rattle.std.proofs.lemmas.Bool.{and_from, lt-ltb}
@@ -74,7 +74,7 @@ none_dropped (suc zero) place e at call = let z : ◌≡◌ {A = ℕ} 0 1 = cc i
 none_dropped (suc (suc m)) place e at call = absurd at
 
 unfinished : (m n : ℕ) (x : Held ℕ) (sent exchanges : ℕ) (e : Event ℕ) → At stalled m e
-    → e.reply ≡ Reply.Finished n x.stamp x.figure sent exchanges → ⊥
+    → e.reply ≡ Ok (Reply.Finished n x.stamp x.figure sent exchanges) → ⊥
 unfinished zero n x sent exchanges e at reply = let z : ◌≡◌ {A = ℕ} 0 1 = cc in omega arith
 unfinished (suc zero) n x sent exchanges e at reply = let z : ◌≡◌ {A = ℕ} 0 1 = cc in omega arith
 unfinished (suc (suc m)) n x sent exchanges e at reply = absurd at

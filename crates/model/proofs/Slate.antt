@@ -1,5 +1,5 @@
 -- What a row says of what its reads show, and what the events of a small history tell.
-use Rattle.std.proofs.Common.{◌≡◌, ℕ, zero, suc, ◌⊎◌, List, [], ◌∷◌, sym, refl, ◌∙◌, subst, inl, inr, arith}
+use Rattle.std.proofs.Common.{◌≡◌, ℕ, zero, suc, ◌⊎◌, List, [], ◌∷◌, sym, refl, ◌∙◌, subst, inl, inr, arith, Ok}
 use Rattle.std.specs.List.{AllByRecursion as All}
 use Rattle.model.specs.declared.parties.Party.{Party}
 use Rattle.model.specs.declared.messages.Message.{Message}
@@ -95,10 +95,10 @@ past h i n b apart (m ∷ row) x once (inr (s, p)) (inr f) (inr g) = past h i n 
 
 module _ (Figure : ℕ → ℕ → Type 0) (Stamps : ℕ → Stamp → Type 0) (Ending : ℕ → Stamp → ℕ → Type 0) where
   pub record Tells (e : Event ℕ) : Type 0 where
-    pub starts : (n f : ℕ) → e.call ≡ Call.Write f → e.reply ≡ Reply.Started n → Figure n f
+    pub starts : (n f : ℕ) → e.call ≡ Call.Write f → e.reply ≡ Ok (Reply.Started n) → Figure n f
     pub stamps : (a : Message ℕ) → In a e.sent → Stamps a.operation a.stamp
     pub ends : (n : ℕ) (x : Held ℕ) (sent exchanges : ℕ)
-        → e.reply ≡ Reply.Finished n x.stamp x.figure sent exchanges → Ending n x.stamp x.figure
+        → e.reply ≡ Ok (Reply.Finished n x.stamp x.figure sent exchanges) → Ending n x.stamp x.figure
 
   pub write_tells : (n : ℕ) (t : Stamp) (f : ℕ) → Figure n f → Stamps n t → Tells (write_starts n f (put n t f ∷ []))
   write_tells n t f h g = record {

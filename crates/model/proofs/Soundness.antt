@@ -1,5 +1,5 @@
 -- Which tables are sound, and that a call on any other is declined and alters nothing.
-use Rattle.std.proofs.Common.{◌≡◌, ℕ, Bool, true, false, List, [], ◌∷◌, map, refl}
+use Rattle.std.proofs.Common.{◌≡◌, ℕ, Bool, true, false, List, [], ◌∷◌, map, refl, Ok}
 use Rattle.quorum.specs.Sets.{Rule}
 use Rattle.quorum.specs.Families.{count_rule}
 use Rattle.model.specs.declared.parties.Party.{Party}
@@ -233,6 +233,6 @@ past : made ahead_tables (Call.Deliver 1) ≡ declined ahead_tables Refusal.NoMe
 unfolding made
 past = refl
 
-ahead_dropped : (made ahead_tables (Call.Drop 0)).reply ≡ Reply.Done
+ahead_dropped : (made ahead_tables (Call.Drop 0)).reply ≡ Ok Reply.Done
 unfolding made
 ahead_dropped = refl

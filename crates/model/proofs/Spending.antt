@@ -1,5 +1,5 @@
 -- What each call sends, and what it leaves that can still be sent.
-use Rattle.std.proofs.Common.{◌≡◌, ℕ, zero, suc, pred, ◌+◌, ◌*◌, ◌<◌, ◌≤◌, min, Bool, true, false, cond, not, ◌&&◌, eqb, leb, List, [], ◌∷◌, ◌++◌, length, get_or, set, Some, None, Option, sym, refl, ap, ◌∙◌, subst, inl, inr, le_of_eq, arith, length-set}
+use Rattle.std.proofs.Common.{◌≡◌, ℕ, zero, suc, pred, ◌+◌, ◌*◌, ◌<◌, ◌≤◌, min, Bool, true, false, cond, not, ◌&&◌, eqb, leb, List, [], ◌∷◌, ◌++◌, length, get_or, set, Some, None, Option, sym, refl, ap, ◌∙◌, subst, inl, inr, le_of_eq, arith, length-set, Ok, Err}
 use Rattle.std.specs.List.{AllByRecursion as All}
 use Rattle.std.proofs.lemmas.List.{get_or_append_left, get_or_push, get_or_past, length_push}
 use Rattle.std.proofs.ByRecursion.{All-weaker}
@@ -29,6 +29,7 @@ use Rattle.model.specs.Claims.{In, asked, of_operation, limit}
 use Rattle.model.proofs.Totals.{set_below, weight, only_same, only_other, load, load_append, load_without, of_operation_to_all, load_to_all, Of, all_to_all, of_operation_none, load_none, load_past, LinesKept, counted_length, counted_keeps, counted_sent}
 use Rattle.model.proofs.Reserve.{pending, unreplied, reserve, unreplied_most, reserve_below}
 use Rattle.model.proofs.Handlers.{reserved, Handled, received_handled}
+use Rattle.model.specs.Answers.{Answer}
 
 -- What a call asks for
 
@@ -92,7 +93,7 @@ module _ {F : Type 0} where
         → of_operation n o.sent + remaining rule o.next n ≤ remaining rule s n
     pub opens : (n : ℕ) → length s.journal < n → n ≤ length o.next.journal
         → of_operation n o.sent + remaining rule o.next n ≤ limit rule.size (line o.next n).kind
-    pub starts : (n : ℕ) (p : Party) (k : OperationKind) → asked c ≡ Some (p, k) → o.reply ≡ Reply.Started n
+    pub starts : (n : ℕ) (p : Party) (k : OperationKind) → asked c ≡ Some (p, k) → o.reply ≡ Ok (Reply.Started n)
         → (1 ≤ n) × (n ≤ length o.next.journal) × ((line o.next n).kind ≡ k)
 
   -- Tables that are sound
@@ -143,9 +144,9 @@ module _ {F : Type 0} where
 
   module _ (rule : Rule) (s : State F) (shaped : Shaped rule s)
       (small : (n : ℕ) → 1 ≤ n → n ≤ length s.journal → (line s n).sent ≤ 65535) where
-    silent : (c : Call F) (reply : Reply F) (taken : List (Message F)) (w : Writer) (replicas : List (Replica F)) (readers : List (Reader F)) (messages : List (Message F))
+    silent : (c : Call F) (reply : Answer F) (taken : List (Message F)) (w : Writer) (replicas : List (Replica F)) (readers : List (Reader F)) (messages : List (Message F))
         → length readers ≡ length s.readers
-        → ((n : ℕ) (p : Party) (k : OperationKind) → asked c ≡ Some (p, k) → reply ≡ Reply.Started n → ⊥)
+        → ((n : ℕ) (p : Party) (k : OperationKind) → asked c ≡ Some (p, k) → reply ≡ Ok (Reply.Started n) → ⊥)
         → ((n : ℕ) → 1 ≤ n → ((place : ℕ) (a : Message F) → c ≡ Call.Duplicate place → In a taken → a.operation ≡ n → ⊥)
         → load rule.size n messages + reserved rule s n readers s.marks ≤ remaining rule s n)
         → Stepped rule s c (record { reply = reply; taken = taken; sent = []; next = silent_state s w replicas readers messages })
@@ -162,13 +163,13 @@ module _ {F : Type 0} where
     }
 
     declined_stepped : (c : Call F) (e : Refusal) → Stepped rule s c (declined s e)
-    declined_stepped c e = silent c (Reply.Declined e) [] s.writer s.replicas s.readers s.messages refl
+    declined_stepped c e = silent c (Err e) [] s.writer s.replicas s.readers s.messages refl
         (λ n p k b i. let z : ◌≡◌ {A = ℕ} 0 1 = cc in omega arith) (λ n b u. omega arith)
 
     dropped_stepped : (place : ℕ) → place < length s.messages → Stepped rule s (Call.Drop place) (dropped s place)
     unfolding dropped
     dropped_stepped place h =
-        silent (Call.Drop place) Reply.Done (message s place ∷ []) s.writer s.replicas s.readers
+        silent (Call.Drop place) (Ok Reply.Done) (message s place ∷ []) s.writer s.replicas s.readers
         (without s.messages place) refl
         (λ n p k b i. not_asked (p, k) b)
         (λ n b u. omega (arith, load_without rule.size n s.messages place (no_message s.start) h))
@@ -176,7 +177,7 @@ module _ {F : Type 0} where
     duplicated_stepped : (place : ℕ) → Stepped rule s (Call.Duplicate place) (duplicated s place)
     unfolding duplicated load
     duplicated_stepped place =
-        silent (Call.Duplicate place) Reply.Done (message s place ∷ []) s.writer s.replicas s.readers
+        silent (Call.Duplicate place) (Ok Reply.Done) (message s place ∷ []) s.writer s.replicas s.readers
         (s.messages ++ message s place ∷ []) refl
         (λ n p k b i. not_asked (p, k) b)
         (λ n b u. omega
@@ -185,11 +186,11 @@ module _ {F : Type 0} where
     halt_stepped : (p : Party) → Stepped rule s (Call.Halt p) (halt s p)
     unfolding halt
     halt_stepped Party.Writer =
-        silent (Call.Halt Party.Writer) Reply.Done [] (writer_halted s.writer) s.replicas s.readers
+        silent (Call.Halt Party.Writer) (Ok Reply.Done) [] (writer_halted s.writer) s.replicas s.readers
         s.messages refl
         (λ n p k b i. not_asked (p, k) b) (λ n b u. omega arith)
     halt_stepped (Party.Reader r) =
-        silent (Call.Halt (Party.Reader r)) Reply.Done [] s.writer s.replicas
+        silent (Call.Halt (Party.Reader r)) (Ok Reply.Done) [] s.writer s.replicas
         (set s.readers r (reader_halted (reader s r))) s.messages
         (length-set s.readers r (reader_halted (reader s r)))
         (λ n p k b i. not_asked (p, k) b)
@@ -202,7 +203,7 @@ module _ {F : Type 0} where
         (le_of_eq e) in
         omega arith)
     halt_stepped (Party.Replica c) =
-        silent (Call.Halt (Party.Replica c)) Reply.Done [] s.writer
+        silent (Call.Halt (Party.Replica c)) (Ok Reply.Done) [] s.writer
         (set s.replicas c (replica_halted (replica s c))) s.readers s.messages refl
         (λ n p k b i. not_asked (p, k) b) (λ n b u. omega arith)
 

@@ -1,5 +1,5 @@
 -- A write or a read that starts keeps what is known.
-use Rattle.std.proofs.Common.{◌≡◌, ℕ, suc, pred, ◌+◌, ◌/◌, ◌<◌, ◌≤◌, ◌⊎◌, List, [], ◌∷◌, ◌++◌, length, get_or, set, sym, refl, ap, ◌∙◌, subst, inl, inr, arith, length-set}
+use Rattle.std.proofs.Common.{◌≡◌, ℕ, suc, pred, ◌+◌, ◌/◌, ◌<◌, ◌≤◌, ◌⊎◌, List, [], ◌∷◌, ◌++◌, length, get_or, set, sym, refl, ap, ◌∙◌, subst, inl, inr, arith, length-set, Ok}
 use Rattle.std.specs.List.{AllByRecursion as All}
 use Rattle.std.proofs.lemmas.Bool.{cases_eq, both_ways}
 use Rattle.quorum.specs.Sets.{Rule, bits}
@@ -30,9 +30,10 @@ use Rattle.model.proofs.Moves.{read_op, write_op, read_begun, write_begun, later
 use Rattle.model.proofs.Good.{apart_writer, apart_reader, current, start_true, Says, InPhase, Writing, LineGood, AtWork, Opens, Closes, Good, Kept, true_later, mark_later, messages_later, Still, phase_later, writing_later, line_later, advance}
 use Rattle.model.proofs.Steps.{work_later}
 use Rattle.model.proofs.Ends.{line_none}
+use Rattle.model.specs.Answers.{Answer}
 
 abbrev pub opening : {F : Type 0} → Call F → Effect F → Event F
-opening c e = record { call = c; reply = e.reply; taken = []; sent = e.sent }
+opening c e = record { call = c; reply = Ok e.reply; taken = []; sent = e.sent }
 
 module _ {F : Type 0} (q : Rule) (R : ℕ) (law : Lawful q) (start : F) (w : World F) (s : State F) (h : History F)
     (g : Good q R start w s h) where
@@ -104,7 +105,7 @@ module _ {F : Type 0} (q : Rule) (R : ℕ) (law : Lawful q) (start : F) (w : Wor
               journal = s.journal ++ nl ∷ [];
               finished = s.finished;
             })
-            (h ++ record { call = c; reply = Reply.Started (next_number s); taken = []; sent = sent } ∷ [])
+            (h ++ record { call = c; reply = Ok (Reply.Started (next_number s)); taken = []; sent = sent } ∷ [])
         begins c sent last_is says opens width readers writer =
             advance q R start w v₅ up s _ h _ g (record {
               core = core;
@@ -145,14 +146,14 @@ module _ {F : Type 0} (q : Rule) (R : ℕ) (law : Lawful q) (start : F) (w : Wor
               begun =
                   put_each
                   (λ i p. 1 ≤ p.stage → (1 ≤ (w.ops i).stage) ⊎
-                  ((p.begun ≡ length h) × (◌≡◌ {A = Reply F} (Reply.Started (next_number s)) (Reply.Started i))))
+                  ((p.begun ≡ length h) × (◌≡◌ {A = Answer F} (Ok (Reply.Started (next_number s))) (Ok (Reply.Started i)))))
                   w.ops (suc w.count) o
-                  (λ _. inr (begun_is ∙ g.now_is, λ i. Reply.Started (sym number_is i)))
+                  (λ _. inr (begun_is ∙ g.now_is, λ i. Ok (Reply.Started (sym number_is i))))
                   (λ i _ l. inl l);
               ended =
                   put_each
                   (λ i p. 3 ≤ p.stage → (3 ≤ (w.ops i).stage) ⊎
-                  ((p.ended ≡ length h) × Closes (record { call = c; reply = Reply.Started (next_number s); taken = []; sent = sent }) i (value p.aim)))
+                  ((p.ended ≡ length h) × Closes (record { call = c; reply = Ok (Reply.Started (next_number s)); taken = []; sent = sent }) i (value p.aim)))
                   w.ops (suc w.count) o
                   (λ l. absurd (omega arith)) (λ i _ l. inl l);
             })

@@ -1,5 +1,5 @@
 -- Steps that leave the operations and the replicas' stamps as they are keep what is known.
-use Rattle.std.proofs.Common.{◌≡◌, ℕ, pred, ◌/◌, ◌<◌, List, [], ◌∷◌, ◌++◌, length, get_or, sym, refl, ap, ◌∙◌, subst, inl, arith, length-set}
+use Rattle.std.proofs.Common.{◌≡◌, ℕ, pred, ◌/◌, ◌<◌, List, [], ◌∷◌, ◌++◌, length, get_or, sym, refl, ap, ◌∙◌, subst, inl, arith, length-set, Ok}
 use Rattle.std.specs.List.{AllByRecursion as All}
 use Rattle.std.proofs.ByRecursion.{All-get_or, All-append, All-push}
 use Rattle.quorum.specs.Sets.{Rule}
@@ -75,7 +75,7 @@ module _ {F : Type 0} where
   }
 
   abbrev pub delivery : ℕ → List (Message F) → Effect F → Event F
-  delivery place taken e = record { call = Call.Deliver place; reply = e.reply; taken = taken; sent = e.sent }
+  delivery place taken e = record { call = Call.Deliver place; reply = Ok e.reply; taken = taken; sent = e.sent }
 
   pub same_current : (start : F) (n n' : ℕ) (d d' : List (Reader F)) → n' ≡ n
       → ((r : ℕ) → (get_or d' r (new_reader start)).operation ≡ (get_or d r (new_reader start)).operation)

@@ -1,5 +1,5 @@
 -- What a history tells of its operations is what is known of them.
-use Rattle.std.proofs.Common.{◌≡◌, ℕ, ◌<◌, ◌≤◌, Bool, true, false, List, Some, None, Option, sym, refl, ap, ◌∙◌, subst, inl, inr, arith}
+use Rattle.std.proofs.Common.{◌≡◌, ℕ, ◌<◌, ◌≤◌, Bool, true, false, List, Some, None, Option, sym, refl, ap, ◌∙◌, subst, inl, inr, arith, Ok, Err}
 use Rattle.std.proofs.lemmas.Bool.{cases_eq, both_ways}
 use Rattle.quorum.specs.Sets.{Rule}
 use Rattle.quorum.specs.Laws.{Lawful}
@@ -17,6 +17,7 @@ use Rattle.model.specs.Claims.{At, asked, Starts, Finishes, Put, Writes, Shows, 
 use Rattle.model.proofs.Lists.{all_in, at_same}
 use Rattle.model.proofs.World.{Op, World}
 use Rattle.model.proofs.Good.{Says, Ends, Opens, Begins, Answers, shown, Good}
+use Rattle.model.specs.Answers.{Answer}
 
 -- The parts of what is asked for.
 
@@ -28,26 +29,26 @@ abbrev read_asked : Option (Party × OperationKind) → Bool
 read_asked (Some x) = is_read x.1
 read_asked None = false
 
-abbrev is_start : {F : Type 0} → Reply F → Bool
-is_start (Reply.Started n) = true
-is_start (Reply.Finished n t f sent exchanges) = false
-is_start Reply.Done = false
-is_start (Reply.Declined e) = false
+abbrev is_start : {F : Type 0} → Answer F → Bool
+is_start (Ok (Reply.Started n)) = true
+is_start (Ok (Reply.Finished n t f sent exchanges)) = false
+is_start (Ok Reply.Done) = false
+is_start (Err e) = false
 
 module _ {F : Type 0} (q : Rule) (R : ℕ) (law : Lawful q) (start : F) (w : World F) (s : State F) (h : History F)
     (g : Good q R start w s h) where
   abbrev op : ℕ → Op
   op = w.ops
 
-  answers_at : (m : ℕ) (e : Event F) (r : Reply F) → At h m e → e.reply ≡ r → Answers w m e.call e.sent r
+  answers_at : (m : ℕ) (e : Event F) (r : Answer F) → At h m e → e.reply ≡ r → Answers w m e.call e.sent r
   answers_at m e r a d = subst (Answers w m e.call e.sent) d (g.told m e a).answers
 
   pub ends_at : (m n : ℕ) (x : Held F) → Finishes h m n x → Ends w m n x
-  ends_at m n x f = answers_at m f.0 (Reply.Finished n x.stamp x.figure f.2 f.3) f.4 f.6
+  ends_at m n x f = answers_at m f.0 (Ok (Reply.Finished n x.stamp x.figure f.2 f.3)) f.4 f.6
 
-  pub begins_at : (m : ℕ) (e : Event F) (n : ℕ) → At h m e → e.reply ≡ Reply.Started n
+  pub begins_at : (m : ℕ) (e : Event F) (n : ℕ) → At h m e → e.reply ≡ Ok (Reply.Started n)
       → Begins w m n e.call e.sent
-  begins_at m e n a d = answers_at m e (Reply.Started n) a d
+  begins_at m e n a d = answers_at m e (Ok (Reply.Started n)) a d
 
   -- A write that has begun, a read that has begun, and a read that has finished are in the history.
 
@@ -59,7 +60,7 @@ module _ {F : Type 0} (q : Rule) (R : ℕ) (law : Lawful q) (start : F) (w : Wor
       let aims = store.aims ∙ ap (λ i. (op i).aim) p.5 in
       (aims, ap (λ y. y.stamp) (store.true_figure.is ∙ ap w.value aims))
 
-  write_shown : (n m : ℕ) (e : Event F) → At h m e → e.reply ≡ Reply.Started n → (op n).reading ≡ false
+  write_shown : (n m : ℕ) (e : Event F) → At h m e → e.reply ≡ Ok (Reply.Started n) → (op n).reading ≡ false
       → (c : Call F) → e.call ≡ c → Opens w n c e.sent → Writes h n (shown w n)
   write_shown n m e a d r (Call.Write f) i o =
       let p = o.puts in (
@@ -108,7 +109,7 @@ module _ {F : Type 0} (q : Rule) (R : ℕ) (law : Lawful q) (start : F) (w : Wor
   abbrev StartsAt : ℕ → ℕ → Type 0
   StartsAt m n = (p : Party) × (k : OperationKind) × Starts h m n p k
 
-  start_shown : (n m : ℕ) (e : Event F) → At h m e → e.reply ≡ Reply.Started n → (c : Call F) → e.call ≡ c
+  start_shown : (n m : ℕ) (e : Event F) → At h m e → e.reply ≡ Ok (Reply.Started n) → (c : Call F) → e.call ≡ c
       → Opens w n c e.sent → StartsAt m n
   start_shown n m e a d (Call.Write f) i o = (Party.Writer, OperationKind.Write, (e, a, ap asked i, d))
   start_shown n m e a d (Call.Read r kind) i o = (Party.Reader r, OperationKind.Read kind, (e, a, ap asked i, d))

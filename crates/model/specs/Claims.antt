@@ -1,6 +1,6 @@
 -- What a register promises of every history: its operations stand in one row, those that nothing holds up finish, and
 -- their messages are few. It goes by the calls and their answers, and by which messages were sent, dropped and copied.
-use Rattle.std.specs.Prelude.{◌≡◌, ℕ, ◌+◌, ◌*◌, ◌<◌, ◌≤◌, min, true, false, cond, not, ◌&&◌, ◌⊎◌, List, [], ◌∷◌, length, Some, None, Option, ◌==◌, ◌≢◌, nat_lt}
+use Rattle.std.specs.Prelude.{◌≡◌, ℕ, ◌+◌, ◌*◌, ◌<◌, ◌≤◌, min, true, false, cond, not, ◌&&◌, ◌⊎◌, List, [], ◌∷◌, length, Some, None, Option, ◌==◌, ◌≢◌, nat_lt, Ok, Err}
 use Rattle.quorum.specs.Sets.{Rule, Members}
 use Rattle.quorum.specs.Laws.{Lawful}
 use Rattle.model.specs.declared.parties.Party.{Party}
@@ -31,13 +31,13 @@ module _ {F : Type 0} (h : History F) where
   -- At moment m operation n starts: a write or a read is answered with its number.
   abbrev pub Starts : ℕ → ℕ → Party → OperationKind → Type 0
   Starts m n owner kind =
-      (e : Event F) × At h m e × (asked e.call ≡ Some (owner, kind)) × (e.reply ≡ Reply.Started n)
+      (e : Event F) × At h m e × (asked e.call ≡ Some (owner, kind)) × (e.reply ≡ Ok (Reply.Started n))
 
   -- At moment m operation n finishes with x: a delivery is answered so.
   abbrev pub Finishes : ℕ → ℕ → Held F → Type 0
   Finishes m n x =
       (e : Event F) × (place : ℕ) × (sent : ℕ) × (exchanges : ℕ) × At h m e × (e.call ≡ Call.Deliver place)
-      × (e.reply ≡ Reply.Finished n x.stamp x.figure sent exchanges)
+      × (e.reply ≡ Ok (Reply.Finished n x.stamp x.figure sent exchanges))
 
   abbrev pub Finished : ℕ → Type 0
   Finished n = (m : ℕ) × (x : Held F) × Finishes m n x
@@ -59,7 +59,7 @@ module _ {F : Type 0} (h : History F) where
   -- Operation n is a write of x: of the figure given in its call, under its stamp.
   abbrev pub Writes : ℕ → Held F → Type 0
   Writes n x =
-      (m : ℕ) × (e : Event F) × At h m e × (e.call ≡ Call.Write x.figure) × (e.reply ≡ Reply.Started n)
+      (m : ℕ) × (e : Event F) × At h m e × (e.call ≡ Call.Write x.figure) × (e.reply ≡ Ok (Reply.Started n))
       × Stamped n x.stamp
 
   -- Operation n is a read that has finished, and it showed x.
@@ -158,7 +158,7 @@ pub record Limits {F : Type 0} (rule : Rule) (h : History F) (s : State F) : Typ
 abbrev pub Undisturbed : {F : Type 0} → History F → Type 0
 Undisturbed {F} h =
     (m : ℕ) (e : Event F) → At h m e
-    → (e.reply ≢ Reply.Declined Refusal.Unsound) × (e.reply ≢ Reply.Declined Refusal.StampAhead)
+    → (e.reply ≢ Err Refusal.Unsound) × (e.reply ≢ Err Refusal.StampAhead)
 
 -- ALL OF IT
 

@@ -3,14 +3,14 @@ use Rattle.std.specs.Prelude.{ℕ, List, [], ◌∷◌, ◌++◌, map}
 use Rattle.quorum.specs.Sets.{Rule}
 use Rattle.model.specs.declared.messages.Message.{Message}
 use Rattle.model.specs.declared.calls.Call.{Call}
-use Rattle.model.specs.declared.answers.Reply.{Reply}
+use Rattle.model.specs.Answers.{Answer}
 use Rattle.model.specs.State.{State, fresh}
 use Rattle.model.specs.Steps.{Outcome, step}
 
 -- A call, its answer, the message that it took out or copied, if any, and those that it sent.
 pub record Event (F : Type 0) : Type 0 where
   pub call : Call F
-  pub reply : Reply F
+  pub reply : Answer F
   pub taken : List (Message F)
   pub sent : List (Message F)
 
@@ -40,5 +40,5 @@ run {F} rule s (c ∷ cs) =
     let rest : Run F = run rule o.next cs in
     record { history = event c o ∷ rest.history; state = rest.state }
 
-abbrev pub replies : {F : Type 0} → History F → List (Reply F)
+abbrev pub replies : {F : Type 0} → History F → List (Answer F)
 replies h = map (λ e. e.reply) h

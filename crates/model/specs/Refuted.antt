@@ -1,5 +1,5 @@
 -- Histories that no register may have. Each breaks a claim, so the claims exclude something.
-use Rattle.std.specs.Prelude.{◌≡◌, ℕ, ◌+◌, ◌*◌, List, [], ◌∷◌, replicate}
+use Rattle.std.specs.Prelude.{◌≡◌, ℕ, ◌+◌, ◌*◌, List, [], ◌∷◌, replicate, Ok}
 use Rattle.quorum.specs.Sets.{Rule}
 use Rattle.quorum.specs.Laws.{Lawful}
 use Rattle.model.specs.declared.parties.Party.{Party}
@@ -33,15 +33,15 @@ put n t f = new_message MessageKind.Put n Party.Writer (Party.Replica 0) (value 
 
 -- Write n of a figure starts, and these messages are sent for it.
 abbrev pub write_starts : ℕ → ℕ → List (Message ℕ) → Event ℕ
-write_starts n f sent = record { call = Call.Write f; reply = Reply.Started n; taken = []; sent = sent }
+write_starts n f sent = record { call = Call.Write f; reply = Ok (Reply.Started n); taken = []; sent = sent }
 
 -- Read n of reader r starts.
 abbrev pub read_starts : ℕ → ℕ → Event ℕ
-read_starts n r = record { call = Call.Read r ReadKind.Quick; reply = Reply.Started n; taken = []; sent = [] }
+read_starts n r = record { call = Call.Read r ReadKind.Quick; reply = Ok (Reply.Started n); taken = []; sent = [] }
 
 -- A delivery finishes operation n with a stamp and a figure. The row does not ask which message was delivered.
 abbrev pub finishes : ℕ → Stamp → ℕ → Event ℕ
-finishes n t f = record { call = Call.Deliver 0; reply = Reply.Finished n t f 2 2; taken = []; sent = [] }
+finishes n t f = record { call = Call.Deliver 0; reply = Ok (Reply.Finished n t f 2 2); taken = []; sent = [] }
 
 -- HISTORIES
 
@@ -70,7 +70,7 @@ read_after_write t f =
 abbrev pub stalled : History ℕ
 stalled =
     write_starts 1 10 (put 1 first 10 ∷ [])
-    ∷ record { call = Call.Deliver 0; reply = Reply.Done; taken = put 1 first 10 ∷ []; sent = [] }
+    ∷ record { call = Call.Deliver 0; reply = Ok Reply.Done; taken = put 1 first 10 ∷ []; sent = [] }
     ∷ []
 
 -- A write for which one message more is sent than two for each replica.

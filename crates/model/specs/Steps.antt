@@ -1,5 +1,5 @@
 -- What each call answers, and what it leaves.
-use Rattle.std.specs.Prelude.{ℕ, suc, pred, ◌+◌, Bool, false, cond, not, List, [], ◌∷◌, ◌++◌, length, Some, None, Option, ◌==◌, nat_le, nat_lt, slice_index_or, slice_set}
+use Rattle.std.specs.Prelude.{ℕ, suc, pred, ◌+◌, Bool, false, cond, not, List, [], ◌∷◌, ◌++◌, length, Some, None, Option, Ok, Err, ◌==◌, nat_le, nat_lt, slice_index_or, slice_set}
 use Rattle.quorum.specs.Sets.{Rule}
 use Rattle.model.specs.declared.parties.Party.{Party}
 use Rattle.model.specs.declared.reader.Phase.{Phase}
@@ -11,6 +11,7 @@ use Rattle.model.specs.declared.journal.Operation.{Operation}
 use Rattle.model.specs.declared.calls.Call.{Call}
 use Rattle.model.specs.declared.answers.Reply.{Reply}
 use Rattle.model.specs.declared.answers.Refusal.{Refusal}
+use Rattle.model.specs.Answers.{Answer}
 use Rattle.model.specs.Stamps.{Stamp, rank, next_stamp}
 use Rattle.model.specs.State.{State, Held, new_line, no_line, unused, replica, reader, message, halted}
 use Rattle.model.specs.State.{with_writer, with_replicas, with_reader, with_messages, with_journal, without_message}
@@ -21,13 +22,13 @@ use Rattle.model.specs.Deliveries.{Effect, to_all, received}
 -- What a call comes to: its answer, the message that it took out or copied, if any, and those that it sent for an
 -- operation. A copy is not sent.
 pub record Outcome (F : Type 0) : Type 0 where
-  pub reply : Reply F
+  pub reply : Answer F
   pub taken : List (Message F)
   pub sent : List (Message F)
   pub next : State F
 
 abbrev pub declined : {F : Type 0} → State F → Refusal → Outcome F
-declined s e = record { reply = Reply.Declined e; taken = []; sent = []; next = s }
+declined s e = record { reply = Err e; taken = []; sent = []; next = s }
 
 -- MESSAGES THAT ARE SENT join the end of those that wait, and each adds one to its operation's count.
 
@@ -40,7 +41,7 @@ abbrev pub posted : {F : Type 0} → State F → List (Message F) → State F
 posted s l = with_messages (with_journal s (counted s.start s.journal l) s.finished) (s.messages ++ l)
 
 abbrev pub outcome : {F : Type 0} → List (Message F) → Effect F → Outcome F
-outcome taken e = record { reply = e.reply; taken = taken; sent = e.sent; next = posted e.next e.sent }
+outcome taken e = record { reply = Ok e.reply; taken = taken; sent = e.sent; next = posted e.next e.sent }
 
 -- AN OPERATION STARTS
 
@@ -90,11 +91,11 @@ unfoldable pub deliver : {F : Type 0} → Rule → State F → ℕ → Effect F
 deliver rule s place = received rule (without_message s place) (message s place)
 
 unfoldable pub dropped : {F : Type 0} → State F → ℕ → Outcome F
-dropped s place = record { reply = Reply.Done; taken = message s place ∷ []; sent = []; next = without_message s place }
+dropped s place = record { reply = Ok Reply.Done; taken = message s place ∷ []; sent = []; next = without_message s place }
 
 unfoldable pub duplicated : {F : Type 0} → State F → ℕ → Outcome F
 duplicated s place = record {
-  reply = Reply.Done;
+  reply = Ok Reply.Done;
   taken = message s place ∷ [];
   sent = [];
   next = with_messages s (s.messages ++ message s place ∷ []);
@@ -106,7 +107,7 @@ stopped s (Party.Reader r) = with_reader s r (reader_halted (reader s r))
 stopped s (Party.Replica c) = with_replicas s (slice_set s.replicas c (replica_halted (replica s c)))
 
 unfoldable pub halt : {F : Type 0} → State F → Party → Outcome F
-halt s p = record { reply = Reply.Done; taken = []; sent = []; next = stopped s p }
+halt s p = record { reply = Ok Reply.Done; taken = []; sent = []; next = stopped s p }
 
 -- What a call does that is not declined.
 unfoldable pub done : {F : Type 0} → Rule → State F → Call F → Outcome F

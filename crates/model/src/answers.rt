@@ -5,21 +5,21 @@ ghost use Rattle.model.specs.Answers.{number as number_of};
 #[derive(Clone, Copy, PartialEq, Eq, Debug)]
 pub enum Refusal {
     /// A table has not the length that it was commissioned with.
-    TableLength,
+    TableLength = 3,
     /// The tables are not those of a register in service.
-    Unsound,
-    NoSuchParty,
+    Unsound = 4,
+    NoSuchParty = 5,
     /// The owner of the operation to start, or the party to halt, is halted.
-    Halted,
+    Halted = 6,
     /// The owner has an operation under way.
-    Busy,
-    JournalFull,
+    Busy = 7,
+    JournalFull = 8,
     /// More messages would wait than there is room for.
-    NoRoom,
+    NoRoom = 9,
     /// No message waits at this place.
-    NoMessage,
+    NoMessage = 10,
     /// The message to deliver has a stamp above the writer's last.
-    StampAhead,
+    StampAhead = 11,
 }
 
 impl Refusal {
@@ -27,21 +27,11 @@ impl Refusal {
     pub fn number(self) -> u8
         ensures { result ≡ number_of self }
     {
-        match self {
-            Refusal::TableLength => 3,
-            Refusal::Unsound => 4,
-            Refusal::NoSuchParty => 5,
-            Refusal::Halted => 6,
-            Refusal::Busy => 7,
-            Refusal::JournalFull => 8,
-            Refusal::NoRoom => 9,
-            Refusal::NoMessage => 10,
-            Refusal::StampAhead => 11,
-        }
+        self as u8
     }
 }
 
-/// What a call answers.
+/// What a call answers that is not declined. One that is declined has altered nothing.
 #[derive(Clone, Copy)]
 pub enum Reply<F> {
     /// The operation has started under this number.
@@ -56,6 +46,4 @@ pub enum Reply<F> {
     },
     /// The call is done, and neither started nor finished an operation.
     Done,
-    /// The call is declined and has altered nothing.
-    Declined(Refusal),
 }

@@ -1,4 +1,5 @@
 /// The writer: the stamp of its last write, its current operation (0 if none) and who has acknowledged that.
+// 0 and no `Option`: a message's operation is compared with it as it stands, as with a reader's.
 #[derive(Clone, Copy)]
 pub struct Writer {
     pub halted: bool,

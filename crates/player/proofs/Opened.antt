@@ -17,7 +17,7 @@ use Rattle.script.specs.declared.header.Header.{Header}
 use Rattle.script.specs.declared.header.RuleText.{RuleText}
 use Rattle.script.specs.Headers.{header_of}
 use Rattle.script.specs.Openings.{unless, rule_answer, drafted, opening, opened, opened_by, opening_of}
-use Rattle.player.specs.Rules.{rule_said}
+use Rattle.script.specs.Rules.{rule_said}
 
 apart : {A E : Type 0} {X : Type 0} (e : E) (a : A) → ◌≡◌ {A = Result A E} (Err e) (Ok a) → X
 apart e a p = let z : ◌≡◌ {A = ℕ} 0 1 = cc in absurd (omega arith)

@@ -19,7 +19,7 @@ use Rattle.script.specs.declared.header.Kind.{Kind}
 use Rattle.script.specs.Answers.{answer_of, line_shown}
 use Rattle.script.specs.Calls.{call_of}
 use Rattle.script.specs.Openings.{opening}
-use Rattle.player.specs.Rules.{rule_said}
+use Rattle.script.specs.Rules.{rule_said}
 use Rattle.player.specs.Playing.{turned, answers, set_up}
 use Rattle.player.specs.Served.{call_or, calls_in, told_line, told, ServedCalls, served_kind, served_script, ScriptServed}
 use Rattle.player.proofs.Opened.{opens, laws}

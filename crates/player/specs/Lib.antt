@@ -1,3 +1,2 @@
-pub mod Rules
 pub mod Playing
 pub mod Served

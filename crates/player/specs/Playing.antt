@@ -16,7 +16,7 @@ use Rattle.script.specs.declared.header.Kind.{Kind}
 use Rattle.script.specs.Answers.{answer_of, line_shown}
 use Rattle.script.specs.Calls.{call_of}
 use Rattle.script.specs.Openings.{opening_of}
-use Rattle.player.specs.Rules.{rule_said}
+use Rattle.script.specs.Rules.{rule_said}
 
 -- A CALL LINE
 

@@ -2,10 +2,8 @@
 //! its calls.
 #![tactic(auto)]
 
-mod making;
 mod playing;
 mod printing;
-mod rule;
 mod turn;
 
 pub use playing::play;

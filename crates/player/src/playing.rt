@@ -5,13 +5,13 @@ ghost use Rattle.register.specs.Clusters.{cluster_state, cluster_rule};
 ghost use Rattle.player.specs.Playing.{answers, call_answers, by_kind, played};
 ghost use Rattle.player.specs.Served.{ScriptServed};
 
-use crate::making::make_rule;
+
 use crate::printing::push_answer;
 use crate::turn::play_line;
 use figure::{DigOrder, FigureKind, Tide};
 use quorum::QuorumSystem;
 use register::{Cluster, Draft, Unfounded};
-use script::{Answer, Header, Kind, ScriptFault, TextFault, open_line};
+use script::{Answer, Header, Kind, ScriptFault, TextFault, make_rule, open_line};
 use std::alloc::{AllocError, Global};
 use text::LineCursor;
 

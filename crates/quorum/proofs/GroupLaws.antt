@@ -1,5 +1,5 @@
 -- Groups over lawful rules keep the laws.
-use Rattle.std.proofs.Common.{◌≡◌, ℕ, ◌+◌, ◌*◌, ◌<◌, ◌≤◌, true, ltb, sym, subst₂}
+use Rattle.std.proofs.Common.{◌≡◌, ℕ, ◌+◌, ◌*◌, ◌<◌, ◌≤◌, true, ltb}
 use lib.Arith.{digits_lt}
 use Rattle.std.proofs.lemmas.Nat.{mul-le}
 use Rattle.std.proofs.lemmas.Bool.{and_parts, and_from, lt-ltb}
@@ -25,7 +25,7 @@ module _ (outer inner : Rule) (o : Lawful outer) (i : Lawful inner) (fits : oute
   abbrev n : ℕ
   n = inner.size
 
-  grouped_lawful : Lawful (grouped_rule m n outer inner)
+  pub grouped_lawful : Lawful (grouped_rule m n outer inner)
   grouped_lawful =
       record {
         meets = meets;
@@ -62,10 +62,3 @@ module _ (outer inner : Rule) (o : Lawful outer) (i : Lawful inner) (fits : oute
           let b = (and_parts (ltb t.0 m) (inner.hold (part n q t.0)) t.3).1 in
           let u = i.meets (part n p t.0) (part n q t.0) a b in
           (t.0 * n + u.0, digits_lt t.1 u.1, (and_parts (ltb u.0 n) (p (t.0 * n + u.0)) u.2).1, (and_parts (ltb u.0 n) (q (t.0 * n + u.0)) u.3).1)
-
--- the same of numbers that are the two sizes
-pub groups_lawful : (m n : ℕ) (outer inner : Rule) → m ≡ outer.size → n ≡ inner.size → m * n ≤ 24 → Lawful outer → Lawful inner
-    → Lawful (grouped_rule m n outer inner)
-groups_lawful m n outer inner a b fits o i =
-    subst₂ (λ m n. Lawful (grouped_rule m n outer inner)) (sym a) (sym b)
-    (grouped_lawful outer inner o i (subst₂ (λ m n. m * n ≤ 24) a b fits))

@@ -1,12 +1,12 @@
 -- The set that a mask stands for.
-use Rattle.std.proofs.Common.{◌≡◌, ℕ, zero, suc, ◌+◌, ◌-◌, ◌*◌, ◌/◌, ◌%◌, ◌^◌, ◌<◌, ◌≤◌, Bool, true, false, cond, ◌&&◌, ◌||◌, eqb, ltb, ◌⊎◌, sym, refl, ap, ◌∙◌, ap₂, inl, inr, mod-lt, zero-lt-suc, one-mul, pow-suc, div-one, one-add, arith, pow_pos, pow_mono, shr-shr}
+use Rattle.std.proofs.Common.{◌≡◌, ℕ, zero, suc, ◌+◌, ◌-◌, ◌/◌, ◌%◌, ◌^◌, min, max, ◌<◌, ◌≤◌, Bool, true, false, cond, ◌&&◌, ◌||◌, eqb, ltb, ◌⊎◌, sym, refl, ap, ◌∙◌, ap₂, inl, inr, mod-lt, zero-lt-suc, one-add, arith, pow_pos, shr-shr}
 use mathlib.Core.Path.{fun_ext}
-use native.Mathlib.Nat.{mod-one, zero-div, div-eq_of_lt}
-use lib.Bits.{bit_and, bit_or, and_mask, and_shr, or_shr, and_mod, or_mod, shifted_half, shifted_even}
+use native.Mathlib.Nat.{mod-one}
+use lib.Bits.{bit_and, bit_or, and_mask}
 use lib.Count.{ones, ones_cat}
-use lib.Dec.{eqb-suc-suc, eqb-zero-suc, eqb-suc-zero, leb-suc-suc}
 use lib.Pow.{mod-pow-add}
-use Rattle.std.proofs.lemmas.Bool.{or_left, or_right, or_cases, lt-ltb, le-ltb, eq-eqb, eqb-true}
+use Rattle.std.proofs.lemmas.Bool.{or_left, or_right, or_cases, lt-ltb, le-ltb, eq-eqb, ne_eqb, eqb-true, cases_eq, cases_lt}
+use Rattle.std.proofs.lemmas.Nat.Bits.{shr_and_one, bit_at_and, bit_at_or, bit_at-zero, bit_at-pow_same, bit_at-pow_other, bit_at_above, bit_at_ones, bit_at_ones_above}
 use Rattle.quorum.specs.Sets.{Members, bits, joined, insert, count}
 
 -- a digit is 0 or 1
@@ -34,45 +34,39 @@ bits_shift m s k = ap (λ x. eqb (x % 2) 1) (shr-shr m s k)
 
 pub bits_read : (m k : ℕ) → eqb (bit_and (m / 2 ^ k) 1) 1 ≡ bits m k
 unfolding bits
-bits_read m k = ap (λ x. eqb x 1) (and_mask (m / 2 ^ k) 1)
+bits_read m k = ap (λ x. eqb x 1) (shr_and_one m k)
 
 pub bits_and : (a b k : ℕ) → bits (bit_and a b) k ≡ (bits a k && bits b k)
 unfolding bits
 bits_and a b k =
-    ap (λ x. eqb (x % 2 ^ 1) 1) (and_shr a b k) ∙ ap (λ x. eqb x 1) (and_mod (a / 2 ^ k) (b / 2 ^ k) 1)
-    ∙ by_digits bit_and ◌&&◌ (refl, refl, refl, refl) (digit (a / 2 ^ k)) (digit (b / 2 ^ k))
+    ap (λ x. eqb x 1) (bit_at_and a b k) ∙ by_digits min ◌&&◌ (refl, refl, refl, refl) (digit (a / 2 ^ k)) (digit (b / 2 ^ k))
 
 pub bits_or : (a b k : ℕ) → bits (bit_or a b) k ≡ (bits a k || bits b k)
 unfolding bits
 bits_or a b k =
-    ap (λ x. eqb (x % 2 ^ 1) 1) (or_shr a b k) ∙ ap (λ x. eqb x 1) (or_mod (a / 2 ^ k) (b / 2 ^ k) 1)
-    ∙ by_digits bit_or ◌||◌ (refl, refl, refl, refl) (digit (a / 2 ^ k)) (digit (b / 2 ^ k))
-
-pub bits_half : (m k : ℕ) → bits m (suc k) ≡ bits (m / 2) k
-bits_half m k = ap (bits m) (sym (one-add k)) ∙ sym (bits_shift m 1 k)
+    ap (λ x. eqb x 1) (bit_at_or a b k) ∙ by_digits max ◌||◌ (refl, refl, refl, refl) (digit (a / 2 ^ k)) (digit (b / 2 ^ k))
 
 pub bits_none : (k : ℕ) → bits 0 k ≡ false
 unfolding bits
-bits_none k = ap (λ x. eqb (x % 2) 1) (zero-div (2 ^ k))
+bits_none k = ap (λ x. eqb x 1) (bit_at-zero k)
 
 -- the mask of one replica
-pub bits_one : (i k : ℕ) → bits (1 * 2 ^ i) k ≡ eqb k i
+pub bits_one : (i k : ℕ) → bits (2 ^ i) k ≡ eqb k i
 unfolding bits
-bits_one zero zero = refl
-bits_one zero (suc k) = bits_half 1 k ∙ bits_none k ∙ sym (eqb-suc-zero k)
-bits_one (suc i) zero = ap (λ x. eqb (x % 2) 1) (div-one (1 * 2 ^ suc i)) ∙ ap (λ x. eqb x 1) (shifted_even 1 i) ∙ sym (eqb-zero-suc i)
-bits_one (suc i) (suc k) = bits_half (1 * 2 ^ suc i) k ∙ ap (λ x. bits x k) (shifted_half 1 i) ∙ bits_one i k ∙ sym (eqb-suc-suc k i)
+bits_one i k = elim (cases_eq k i) [
+  | inl e ↦ ap (λ k. eqb (2 ^ i / 2 ^ k % 2) 1) e ∙ ap (λ x. eqb x 1) (bit_at-pow_same i) ∙ sym (eq-eqb k i e)
+  | inr ne ↦ ap (λ x. eqb x 1) (bit_at-pow_other i k ne) ∙ sym (ne_eqb k i ne)
+]
 
 -- one more replica
 pub bits_joined : (m i : ℕ) → bits (joined m i) ≡ insert i (bits m)
 unfolding insert
-bits_joined m i =
-    fun_ext (λ k. bits_or m (2 ^ i) k ∙ ap (λ b. bits m k || b) (ap (λ x. bits x k) (sym (one-mul (2 ^ i))) ∙ bits_one i k))
+bits_joined m i = fun_ext (λ k. bits_or m (2 ^ i) k ∙ ap (λ b. bits m k || b) (bits_one i k))
 
 -- a mask of 32 bits has no replica from 32 on
 pub bits_past : (m k : ℕ) → m < 2 ^ 32 → 32 ≤ k → bits m k ≡ false
 unfolding bits
-bits_past m k l h = ap (λ x. eqb (x % 2) 1) (div-eq_of_lt (omega (arith, pow_mono h)))
+bits_past m k l h = ap (λ x. eqb x 1) (bit_at_above m 32 k l h)
 
 -- what is in a set with one more
 pub insert_here : (i : ℕ) (p : Members) → insert i p i ≡ true
@@ -90,15 +84,10 @@ insert_from i p k e = elim (or_cases (p k) (eqb k i) e) [ inl a ↦ inl a | inr 
 -- the mask of all replicas below n
 pub bits_below : (n k : ℕ) → bits (2 ^ n - 1) k ≡ ltb k n
 unfolding bits
-bits_below zero k = bits_none k ∙ sym (le-ltb k 0 (omega arith))
-bits_below (suc n) zero = eq-eqb ((2 ^ suc n - 1) / 1 % 2) 1 (ap (λ x. x % 2) (div-one (2 ^ suc n - 1)) ∙ low) ∙ sym (lt-ltb 0 (suc n) (omega arith))
-  where
-    low : (2 ^ suc n - 1) % 2 ≡ 1
-    low = omega (arith, pow-suc 2 n, pow_pos n)
-bits_below (suc n) (suc k) = bits_half (2 ^ suc n - 1) k ∙ ap (λ x. bits x k) half ∙ bits_below n k ∙ sym (leb-suc-suc (suc k) n)
-  where
-    half : (2 ^ suc n - 1) / 2 ≡ 2 ^ n - 1
-    half = omega (arith, pow-suc 2 n, pow_pos n)
+bits_below n k = elim (cases_lt k n) [
+  | inl l ↦ ap (λ x. eqb x 1) (bit_at_ones n k l) ∙ sym (lt-ltb k n l)
+  | inr h ↦ ap (λ x. eqb x 1) (bit_at_ones_above n k h) ∙ sym (le-ltb k n h)
+]
 
 -- the set bits of a cut mask are the members below the cut
 pub ones_count : (m n : ℕ) → ones (m % 2 ^ n) ≡ count (bits m) n

@@ -4,7 +4,7 @@ ghost use Rattle.quorum.specs.Families.{count_rule};
 ghost use Rattle.quorum.specs.Refusals.{declined, count_refusal};
 ghost use Rattle.quorum.specs.Laws.{Lawful};
 
-use crate::members::below;
+use crate::members::{MOST_REPLICAS, below};
 use crate::refusal::RuleRefusal;
 use crate::system::QuorumSystem;
 
@@ -23,7 +23,7 @@ impl Count {
         ensures makes { IfOk result (λ v.
             (v.size ≡ size) × (v.faults ≡ faults) × Lawful (count_rule v.size v.faults)) }
     {
-        if size == 0 || size > 24 {
+        if size == 0 || size > MOST_REPLICAS {
             return Err(RuleRefusal::OutOfLimits);
         }
         if faults >= size || 2 * faults >= size {
@@ -33,6 +33,7 @@ impl Count {
     }
 
     /// How many replicas are among the members.
+    #[tactic(auto, using(crate::proofs::Masks::tally))]
     fn tally(&self, members: u32) -> u32
         ensures { result ≡ count (bits members) self.now.size }
     {

@@ -19,6 +19,7 @@ pub struct Grid {
 }
 
 impl Grid {
+    #[tactic(auto, using(crate::proofs::GridLaws::grid_lawful, crate::proofs::Products::limits))]
     pub fn new(rows: u32, columns: u32) -> Result<Grid, RuleRefusal>
         ensures declines { declined result ≡ product_refusal rows columns }
         ensures makes { IfOk result (λ v.
@@ -31,6 +32,7 @@ impl Grid {
     }
 
     /// Whether a column is full: bit k of `all` says that column k is.
+    #[tactic(auto, using(crate::proofs::Columns::full_one, crate::proofs::Columns::full_more, crate::proofs::Columns::full_found))]
     fn has_full_column(&self, members: u32) -> bool
         ensures { result ≡ some (column_full self.now.rows self.now.columns (bits members))
             self.now.columns }
@@ -43,6 +45,7 @@ impl Grid {
     }
 
     /// Whether each column has a member: bit k of `any` says that column k has one.
+    #[tactic(auto, using(crate::proofs::Columns::touched_none, crate::proofs::Columns::touched_more, crate::proofs::Columns::touched_found))]
     fn touches_columns(&self, members: u32) -> bool
         ensures { result ≡ every (column_touched self.now.rows self.now.columns (bits members))
             self.now.columns }

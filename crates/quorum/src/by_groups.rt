@@ -1,25 +1,22 @@
 ghost use Rattle.std.specs.Prelude.{◌≡◌, IfOk};
-ghost use Rattle.quorum.specs.Sets.{bits};
+ghost use Rattle.quorum.specs.Sets.{Family, bits};
 ghost use Rattle.quorum.specs.Meaning.{rule_of};
-ghost use Rattle.quorum.specs.Families.{family, grouped, grouped_rule};
+ghost use Rattle.quorum.specs.Families.{Judges, grouped, grouped_rule};
 ghost use Rattle.quorum.specs.Refusals.{declined, Product, product_refusal};
 ghost use Rattle.quorum.specs.Laws.{Lawful};
 
 use crate::members::{below, joined};
 use crate::product::product_fits;
-use crate::question::{Question, ask};
 use crate::refusal::RuleRefusal;
 use crate::system::QuorumSystem;
 
 /// Groups of as many replicas each, numbered group by group, over any two rules.
 /// Round: the groups whose part is round by the inner rule are round by the outer one. Hold: likewise.
 #[derive(Drop)]
-pub struct Groups<O, I> {
+pub struct Groups<O: QuorumSystem, I: QuorumSystem> {
     outer: O,
     inner: I,
-    groups: u32,
-    places: u32,
-    ghost ok: { Product groups places },
+    ghost ok: { Product (O.QuorumSystem.size outer) (I.QuorumSystem.size inner) },
 }
 
 impl<O: QuorumSystem + Drop, I: QuorumSystem + Drop> Groups<O, I> {
@@ -27,57 +24,73 @@ impl<O: QuorumSystem + Drop, I: QuorumSystem + Drop> Groups<O, I> {
         ensures declines { declined result ≡ product_refusal (O.QuorumSystem.size outer) (I.QuorumSystem.size inner) }
         ensures makes { IfOk result (λ v.
             (v.outer ≡ outer) × (v.inner ≡ inner)
-            × (v.groups ≡ O.QuorumSystem.size outer) × (v.places ≡ I.QuorumSystem.size inner)
             × (Lawful (rule_of O.QuorumSystem outer) → Lawful (rule_of I.QuorumSystem inner)
-            → Lawful (grouped_rule v.groups v.places (rule_of O.QuorumSystem v.outer) (rule_of I.QuorumSystem v.inner)))) }
+            → Lawful (grouped_rule (O.QuorumSystem.size v.outer) (I.QuorumSystem.size v.inner)
+            (rule_of O.QuorumSystem v.outer) (rule_of I.QuorumSystem v.inner)))) }
     {
         let groups = outer.size();
         let places = inner.size();
         if !product_fits(groups, places) {
             return Err(RuleRefusal::OutOfLimits);
         }
-        Ok(Groups {
-            outer,
-            inner,
-            groups,
-            places,
-        })
+        Ok(Groups { outer, inner })
     }
 }
 
 impl<O: QuorumSystem, I: QuorumSystem> Groups<O, I> {
-    /// The groups whose part of the members is in the family that the question names.
-    fn passing(&self, question: Question, members: u32) -> u32
-        ensures { bits result ≡ grouped self.now.groups self.now.places
-            (family (rule_of I.QuorumSystem self.now.inner) question) (bits members) }
+    /// The groups whose part of the members is in the family that the test decides.
+    fn passing<P: Fn(u32) -> bool>(&self, test: P, members: u32) -> u32
+        requires { P.IsAlwaysCallable test }
+        ensures { (family : Family) → Judges (P.post test) family
+            → bits result ≡ grouped (O.QuorumSystem.size self.now.outer) (I.QuorumSystem.size self.now.inner) family (bits members) }
     {
+        let places = self.inner.size();
         let mut set = 0;
-        for g in 0..self.groups {
-            let part = (members >> (g * self.places)) & below(self.places);
-            if ask(&self.inner, question, part) {
+        for g in 0..self.outer.size() {
+            let part = (members >> (g * places)) & below(places);
+            if test(part) {
                 set = joined(set, g);
             }
         }
         set
     }
+
+    /// The groups whose part is round by the inner rule.
+    fn round_groups(&self, members: u32) -> u32
+        ensures { bits result ≡ grouped (O.QuorumSystem.size self.now.outer) (I.QuorumSystem.size self.now.inner)
+            (I.QuorumSystem.round self.now.inner) (bits members) }
+    {
+        self.passing(|part| self.inner.is_round(part), members)
+    }
+
+    /// The groups whose part is hold by the inner rule.
+    fn hold_groups(&self, members: u32) -> u32
+        ensures { bits result ≡ grouped (O.QuorumSystem.size self.now.outer) (I.QuorumSystem.size self.now.inner)
+            (I.QuorumSystem.hold self.now.inner) (bits members) }
+    {
+        self.passing(|part| self.inner.is_hold(part), members)
+    }
 }
 
 impl<O: QuorumSystem, I: QuorumSystem> QuorumSystem for Groups<O, I> {
-    ghost size = { λ s. (grouped_rule s.groups s.places (rule_of O.QuorumSystem s.outer) (rule_of I.QuorumSystem s.inner)).size };
+    ghost size = { λ s. (grouped_rule (O.QuorumSystem.size s.outer) (I.QuorumSystem.size s.inner)
+        (rule_of O.QuorumSystem s.outer) (rule_of I.QuorumSystem s.inner)).size };
 
-    ghost round = { λ s. (grouped_rule s.groups s.places (rule_of O.QuorumSystem s.outer) (rule_of I.QuorumSystem s.inner)).round };
+    ghost round = { λ s. (grouped_rule (O.QuorumSystem.size s.outer) (I.QuorumSystem.size s.inner)
+        (rule_of O.QuorumSystem s.outer) (rule_of I.QuorumSystem s.inner)).round };
 
-    ghost hold = { λ s. (grouped_rule s.groups s.places (rule_of O.QuorumSystem s.outer) (rule_of I.QuorumSystem s.inner)).hold };
+    ghost hold = { λ s. (grouped_rule (O.QuorumSystem.size s.outer) (I.QuorumSystem.size s.inner)
+        (rule_of O.QuorumSystem s.outer) (rule_of I.QuorumSystem s.inner)).hold };
 
     fn size(&self) -> u32 {
-        self.groups * self.places
+        self.outer.size() * self.inner.size()
     }
 
     fn is_round(&self, members: u32) -> bool {
-        self.outer.is_round(self.passing(Question::Round, members))
+        self.outer.is_round(self.round_groups(members))
     }
 
     fn is_hold(&self, members: u32) -> bool {
-        self.outer.is_hold(self.passing(Question::Hold, members))
+        self.outer.is_hold(self.hold_groups(members))
     }
 }

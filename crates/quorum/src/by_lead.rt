@@ -1,22 +1,24 @@
-ghost use Rattle.std.specs.Prelude.{◌≡◌, IfOk};
+ghost use Rattle.std.specs.Prelude.{◌≡◌, ◌<◌, ◌≤◌, IfOk};
 ghost use Rattle.quorum.specs.Meaning.{rule_of};
 ghost use Rattle.quorum.specs.Families.{lead_rule};
 ghost use Rattle.quorum.specs.Refusals.{declined, lead_refusal};
 ghost use Rattle.quorum.specs.Laws.{Lawful};
 
-use crate::members::has;
+use crate::members::{MOST_REPLICAS, has};
 use crate::refusal::RuleRefusal;
 use crate::system::QuorumSystem;
 
 /// One replica leads, over any rule.
 /// Round: round below, with the lead. Hold: hold below, or any set with the lead.
 #[derive(Drop)]
-pub struct Lead<R> {
+pub struct Lead<R: QuorumSystem> {
     lead: u32,
     below: R,
+    ghost ok: { (lead < R.QuorumSystem.size below) × (R.QuorumSystem.size below ≤ 24) },
 }
 
 impl<R: QuorumSystem + Drop> Lead<R> {
+    #[tactic(auto, using(crate::proofs::LeadLaws::lead_lawful))]
     pub fn new(below: R, lead: u32) -> Result<Lead<R>, RuleRefusal>
         ensures declines { declined result ≡ lead_refusal (R.QuorumSystem.size below) lead }
         ensures makes { IfOk result (λ v.
@@ -24,7 +26,7 @@ impl<R: QuorumSystem + Drop> Lead<R> {
             × (Lawful (rule_of R.QuorumSystem below) → Lawful (lead_rule (rule_of R.QuorumSystem v.below) v.lead))) }
     {
         let size = below.size();
-        if size > 24 || lead >= size {
+        if size > MOST_REPLICAS || lead >= size {
             return Err(RuleRefusal::OutOfLimits);
         }
         Ok(Lead { lead, below })

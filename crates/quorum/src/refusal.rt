@@ -5,9 +5,9 @@ ghost use Rattle.quorum.specs.Refusals.{number as number_of};
 #[derive(Clone, Copy, PartialEq, Eq, Debug)]
 pub enum RuleRefusal {
     /// A number is outside its limits, there are over 24 replicas, or the lead is not one of them.
-    OutOfLimits,
+    OutOfLimits = 1,
     /// Half of the replicas or more are to be allowed to fail.
-    TooManyFaults,
+    TooManyFaults = 2,
 }
 
 impl RuleRefusal {
@@ -15,9 +15,6 @@ impl RuleRefusal {
     pub fn number(self) -> u8
         ensures { result ≡ number_of self }
     {
-        match self {
-            RuleRefusal::OutOfLimits => 1,
-            RuleRefusal::TooManyFaults => 2,
-        }
+        self as u8
     }
 }

@@ -1,18 +1,19 @@
 -- The lines that answer a script.
 use Rattle.std.specs.Prelude.{◌≡◌, ℕ, cond, List, [], ◌∷◌, ◌++◌, length, Ok, Err, codes, decimal, Result, nat_lt}
 use Rattle.model.specs.declared.answers.Reply.{Reply}
+use Rattle.model.specs.Answers.{Answer}
 use Rattle.text.specs.Printing.{put}
-use Rattle.script.specs.declared.answer.Answer.{Answer}
 use Rattle.script.specs.declared.fault.ScriptFault.{ScriptFault}
 use Rattle.script.specs.Faults.{Report, report}
 
--- What the reply to a call is as the answer to its line.
-abbrev pub answer_of : {F : Type 0} → Reply F → Answer F
-answer_of (Reply.Started n) = Answer.Accepted n
-answer_of (Reply.Finished operation stamp figure sent exchanges) =
-    Answer.Finished operation stamp figure sent exchanges
-answer_of Reply.Done = Answer.Accepted 0
-answer_of (Reply.Declined e) = Answer.Declined (ScriptFault.Plant e)
+-- What a line is answered: what its call was, or the fault for which it is declined.
+abbrev pub LineAnswer : Type 0 → Type 0
+LineAnswer F = Result (Reply F) ScriptFault
+
+-- What the answer to a call is as the answer to its line: the cause of a refusal is kept whole.
+abbrev pub answer_of : {F : Type 0} → Answer F → LineAnswer F
+answer_of (Ok r) = Ok r
+answer_of (Err e) = Err (ScriptFault.Plant e)
 
 -- A tab and a number.
 abbrev pub tabbed : ℕ → List ℕ
@@ -31,14 +32,15 @@ finished_shown operation stamp figure sent exchanges =
 abbrev pub declined_shown : Report → List ℕ
 declined_shown e = ((codes "no\t" ++ e.layer) ++ tabbed e.number) ++ tabbed e.field
 
-abbrev pub answer_shown : {F : Type 0} → (F → List ℕ) → Answer F → List ℕ
-answer_shown shown (Answer.Accepted n) = accepted_shown n
-answer_shown shown (Answer.Finished operation stamp figure sent exchanges) =
+abbrev pub answer_shown : {F : Type 0} → (F → List ℕ) → LineAnswer F → List ℕ
+answer_shown shown (Ok (Reply.Started n)) = accepted_shown n
+answer_shown shown (Ok Reply.Done) = accepted_shown 0
+answer_shown shown (Ok (Reply.Finished operation stamp figure sent exchanges)) =
     finished_shown operation stamp (shown figure) sent exchanges
-answer_shown shown (Answer.Declined e) = declined_shown (report e)
+answer_shown shown (Err e) = declined_shown (report e)
 
 -- The line's number, a tab, the answer and a line end.
-abbrev pub line_shown : {F : Type 0} → (F → List ℕ) → ℕ → Answer F → List ℕ
+abbrev pub line_shown : {F : Type 0} → (F → List ℕ) → ℕ → LineAnswer F → List ℕ
 line_shown shown n a = ((decimal n ++ (9 ∷ [])) ++ answer_shown shown a) ++ (10 ∷ [])
 
 -- What printing a line returns, and what it leaves in the buffer: one of less than 80 bytes is refused and kept.

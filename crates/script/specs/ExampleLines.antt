@@ -1,14 +1,13 @@
 -- Worked example lines, good and damaged, each beside what it comes to: itself again, with its numbers as they are
 -- printed, or the answer that declines it.
-use Rattle.std.specs.Prelude.{ℕ, List, [], ◌∷◌, ◌++◌, replicate, codes}
+use Rattle.std.specs.Prelude.{ℕ, List, [], ◌∷◌, ◌++◌, replicate, Ok, Err, codes}
 use Rattle.figure.specs.Tides.{tide_start, tide_shown}
 use Rattle.figure.specs.declared.tide.Tide.{Tide}
 use Rattle.model.specs.declared.answers.Refusal.{Refusal}
 use Rattle.model.specs.declared.answers.Reply.{Reply}
-use Rattle.script.specs.declared.answer.Answer.{Answer}
 use Rattle.script.specs.declared.fault.ScriptFault.{ScriptFault}
 use Rattle.script.specs.declared.fault.TextFault.{TextFault}
-use Rattle.script.specs.Answers.{answer_of, line_shown}
+use Rattle.script.specs.Answers.{LineAnswer, answer_of, line_shown}
 
 -- Call lines to a register of tides. Byte 13 ends no line here, and the last two have 200 and 201 bytes.
 abbrev pub tide_lines : List (List ℕ × List ℕ)
@@ -141,14 +140,14 @@ first_lines =
     (codes "plant\ttide\t2\tcount\t3\t1" ++ (13 ∷ []), codes "no\ttext\t12\t0") ∷ []))))))))))))))))))))))))))))))))
 
 -- The line that a register of tides answers.
-abbrev pub answered : ℕ → Answer Tide → List ℕ
+abbrev pub answered : ℕ → LineAnswer Tide → List ℕ
 answered n answer = line_shown tide_shown n answer
 
 -- The lines that answer replies, and the one that answers too long a script.
 abbrev pub answer_lines : List (List ℕ × List ℕ)
 answer_lines =
-    (answered 2 (answer_of (Reply.Started 1)), codes "2\tok\t1\n") ∷ (
-    (answered 3 (answer_of Reply.Done), codes "3\tok\t0\n") ∷ (
-    (answered 12 (answer_of (Reply.Finished 2 0 tide_start 10 4)), codes "12\tdone\t2\t0\t0\t0\t10\t4\n") ∷ (
-    (answered 13 (answer_of (Reply.Declined Refusal.Busy)), codes "13\tno\tplant\t7\t0\n") ∷ (
-    (answered 0 (Answer.Declined (ScriptFault.Text TextFault.NotText)), codes "0\tno\ttext\t12\t0\n") ∷ []))))
+    (answered 2 (answer_of (Ok (Reply.Started 1))), codes "2\tok\t1\n") ∷ (
+    (answered 3 (answer_of (Ok Reply.Done)), codes "3\tok\t0\n") ∷ (
+    (answered 12 (answer_of (Ok (Reply.Finished 2 0 tide_start 10 4))), codes "12\tdone\t2\t0\t0\t0\t10\t4\n") ∷ (
+    (answered 13 (answer_of (Err Refusal.Busy)), codes "13\tno\tplant\t7\t0\n") ∷ (
+    (answered 0 (Err (ScriptFault.Text TextFault.NotText)), codes "0\tno\ttext\t12\t0\n") ∷ []))))

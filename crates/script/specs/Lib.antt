@@ -2,6 +2,7 @@ pub mod Faults
 pub mod Words
 pub mod Headers
 pub mod Openings
+pub mod Rules
 pub mod Calls
 pub mod Answers
 pub mod Examples

@@ -1,7 +1,7 @@
 ghost use Rattle.std.specs.Prelude.{◌≡◌, ◌+◌, ◌≤◌, length, IfOk};
 ghost use Rattle.text.specs.Printing.{Printed};
 ghost use Rattle.script.specs.Faults.{report};
-ghost use Rattle.script.specs.Answers.{answer_of, tabbed, accepted_shown, finished_shown, declined_shown};
+ghost use Rattle.script.specs.Answers.{tabbed, accepted_shown, finished_shown, declined_shown};
 ghost use Rattle.script.specs.Answers.{answer_shown, line_shown, LinePrinted};
 
 use crate::fault::ScriptFault;
@@ -9,52 +9,11 @@ use figure::FigureKind;
 use model::Reply;
 use text::{put_bytes, put_number};
 
-/// The answer to one line of a script.
-#[derive(Clone, Copy)]
-pub enum Answer<F> {
-    /// It ran: the number of the operation that it started, or 0.
-    Accepted(u16),
-    /// It ran, and finished an operation.
-    Finished {
-        operation: u16,
-        stamp: u32,
-        figure: F,
-        sent: u16,
-        exchanges: u8,
-    },
-    /// It was declined, and altered nothing.
-    Declined(ScriptFault),
-}
-
-/// The answer to a line whose call was answered with this reply.
-pub fn answer_of<F>(reply: Reply<F>) -> Answer<F>
-    ensures { result ≡ answer_of reply }
-{
-    match reply {
-        Reply::Started(operation) => Answer::Accepted(operation),
-        Reply::Finished {
-            operation,
-            stamp,
-            figure,
-            sent,
-            exchanges,
-        } => Answer::Finished {
-            operation,
-            stamp,
-            figure,
-            sent,
-            exchanges,
-        },
-        Reply::Done => Answer::Accepted(0),
-        Reply::Declined(refusal) => Answer::Declined(ScriptFault::Plant(refusal)),
-    }
-}
-
 /// Prints the answer to a line under the line's number into a buffer, and gives the number of bytes, at most 80. A buffer of
 /// less than 80 bytes is refused, and keeps what it held.
 pub fn print_answer<F: FigureKind>(
     number: u32,
-    answer: Answer<F>,
+    answer: Result<Reply<F>, ScriptFault>,
     buffer: &mut [u8],
 ) -> Result<usize, ScriptFault>
     ensures prints { LinePrinted buffer.old (line_shown F.FigureKind.shown number answer)
@@ -71,22 +30,29 @@ pub fn print_answer<F: FigureKind>(
     Ok(at)
 }
 
-fn put_answer<F: FigureKind>(buffer: &mut [u8], at: usize, answer: Answer<F>) -> usize
+fn put_answer<F: FigureKind>(
+    buffer: &mut [u8],
+    at: usize,
+    answer: Result<Reply<F>, ScriptFault>,
+) -> usize
     requires { at + 66 ≤ length buffer.old }
     ensures short { result ≤ at + 66 }
     ensures all { Printed buffer.old at (answer_shown F.FigureKind.shown answer)
         buffer.new result }
 {
     match answer {
-        Answer::Accepted(n) => put_accepted(buffer, at, n),
-        Answer::Finished {
-            operation,
-            stamp,
-            figure,
-            sent,
-            exchanges,
-        } => put_finished(buffer, at, operation, stamp, figure, sent, exchanges),
-        Answer::Declined(fault) => put_declined(buffer, at, fault),
+        Ok(Reply::Started(operation)) => put_accepted(buffer, at, operation),
+        Ok(Reply::Done) => put_accepted(buffer, at, 0),
+        Ok(
+            Reply::Finished {
+                operation,
+                stamp,
+                figure,
+                sent,
+                exchanges,
+            },
+        ) => put_finished(buffer, at, operation, stamp, figure, sent, exchanges),
+        Err(fault) => put_declined(buffer, at, fault),
     }
 }
 

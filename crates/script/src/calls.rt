@@ -8,7 +8,7 @@ use crate::fault::TextFault;
 use crate::words::number_in;
 use figure::FigureKind;
 use model::{Call, Party, ReadKind};
-use text::{FieldCursor, is_text, is_word};
+use text::{FieldCursor, is_text};
 
 /// The call that a line says: a letter, a tab, and what the letter asks for.
 pub fn read_call<F: FigureKind>(line: &[u8]) -> Result<Call<F>, TextFault>
@@ -65,26 +65,21 @@ fn read_in<F>(mut fields: FieldCursor<'_>) -> Result<Call<F>, TextFault>
         return Err(TextFault::FieldCount);
     }
     let reader = number_in(fields.next_field(), 1)?;
-    match read_kind(fields.next_field()) {
-        Some(kind) => Ok(Call::Read(reader, kind)),
-        None => Err(TextFault::UnknownWord { field: 2 }),
-    }
+    let kind = read_kind(fields.next_field()).ok_or(TextFault::UnknownWord { field: 2 })?;
+    Ok(Call::Read(reader, kind))
 }
 
 // How a read goes, by its word.
+#[tactic(auto, unfolding(crate::specs::Calls::read_kind))]
 fn read_kind(word: &[u8]) -> Option<ReadKind>
     ensures { result ≡ read_kind word.now }
 {
-    if is_word(word, "quick") {
-        return Some(ReadKind::Quick);
+    match word {
+        b"quick" => Some(ReadKind::Quick),
+        b"settled" => Some(ReadKind::Settled),
+        b"relay" => Some(ReadKind::Relay),
+        _ => None,
     }
-    if is_word(word, "settled") {
-        return Some(ReadKind::Settled);
-    }
-    if is_word(word, "relay") {
-        return Some(ReadKind::Relay);
-    }
-    None
 }
 
 // The number in the one field that is left, which stands in this field of the line.
@@ -104,18 +99,11 @@ fn party_in(mut fields: FieldCursor<'_>) -> Result<Party, TextFault>
     if fields.count() == 0 {
         return Err(TextFault::FieldCount);
     }
-    let word = fields.next_field();
-    if is_word(word, "cabinet") {
-        return Ok(Party::Replica(only_number(fields, 2)?));
+    match fields.next_field() {
+        b"cabinet" => Ok(Party::Replica(only_number(fields, 2)?)),
+        b"console" => Ok(Party::Reader(only_number(fields, 2)?)),
+        b"station" if fields.count() == 0 => Ok(Party::Writer),
+        b"station" => Err(TextFault::FieldCount),
+        _ => Err(TextFault::UnknownWord { field: 1 }),
     }
-    if is_word(word, "console") {
-        return Ok(Party::Reader(only_number(fields, 2)?));
-    }
-    if !is_word(word, "station") {
-        return Err(TextFault::UnknownWord { field: 1 });
-    }
-    if fields.count() != 0 {
-        return Err(TextFault::FieldCount);
-    }
-    Ok(Party::Writer)
 }

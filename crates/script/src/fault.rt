@@ -85,11 +85,9 @@ impl TextFault {
         ensures { result ≡ (text_report self).field }
     {
         match self {
-            TextFault::UnknownWord { field } => field as u32,
-            TextFault::BadNumber { field } => field as u32,
-            TextFault::Figure(fault) => fault.field() as u32 + 1,
-            TextFault::NotText => 0,
-            TextFault::FieldCount => 0,
+            TextFault::UnknownWord { field } | TextFault::BadNumber { field } => u32::from(field),
+            TextFault::Figure(fault) => u32::from(fault.field()) + 1,
+            TextFault::NotText | TextFault::FieldCount => 0,
         }
     }
 }
@@ -126,9 +124,7 @@ impl ScriptFault {
     {
         match self {
             ScriptFault::Text(fault) => fault.field(),
-            ScriptFault::Rule(_) => 0,
-            ScriptFault::Plant(_) => 0,
-            ScriptFault::Print => 0,
+            ScriptFault::Rule(_) | ScriptFault::Plant(_) | ScriptFault::Print => 0,
         }
     }
 }

@@ -76,9 +76,7 @@ pub fn read_header(line: &[u8]) -> Result<Header, TextFault>
     if count < 4 {
         return Err(TextFault::FieldCount);
     }
-    let Some(rule) = rule_word(word) else {
-        return Err(TextFault::UnknownWord { field: 3 });
-    };
+    let rule = rule_word(word).ok_or(TextFault::UnknownWord { field: 3 })?;
     if count != 4 + rule_numbers(rule) {
         return Err(TextFault::FieldCount);
     }
@@ -86,35 +84,29 @@ pub fn read_header(line: &[u8]) -> Result<Header, TextFault>
 }
 
 // The rule that a word names.
+#[tactic(auto, unfolding(crate::specs::Headers::rule_word))]
 fn rule_word(word: &[u8]) -> Option<RuleWord>
     ensures { result ≡ rule_word word.now }
 {
-    if is_word(word, "count") {
-        return Some(RuleWord::Count);
+    match word {
+        b"count" => Some(RuleWord::Count),
+        b"grid" => Some(RuleWord::Grid),
+        b"lead" => Some(RuleWord::Lead),
+        b"groups" => Some(RuleWord::Groups),
+        _ => None,
     }
-    if is_word(word, "grid") {
-        return Some(RuleWord::Grid);
-    }
-    if is_word(word, "lead") {
-        return Some(RuleWord::Lead);
-    }
-    if is_word(word, "groups") {
-        return Some(RuleWord::Groups);
-    }
-    None
 }
 
 // The kind of figure that a word names.
+#[tactic(auto, unfolding(crate::specs::Headers::kind_word))]
 fn kind_word(word: &[u8]) -> Option<Kind>
     ensures { result ≡ kind_word word.now }
 {
-    if is_word(word, "tide") {
-        return Some(Kind::Tide);
+    match word {
+        b"tide" => Some(Kind::Tide),
+        b"order" => Some(Kind::Order),
+        _ => None,
     }
-    if is_word(word, "order") {
-        return Some(Kind::Order);
-    }
-    None
 }
 
 // How many numbers follow a rule's word.
@@ -122,14 +114,14 @@ fn rule_numbers(rule: RuleWord) -> usize
     ensures { result ≡ rule_numbers rule }
 {
     match rule {
-        RuleWord::Count => 2,
-        RuleWord::Grid => 2,
+        RuleWord::Count | RuleWord::Grid => 2,
         RuleWord::Lead => 3,
         RuleWord::Groups => 4,
     }
 }
 
 // The kind, the readers and the numbers of the rule.
+#[tactic(auto, unfolding(crate::specs::Headers::header_rest))]
 fn header_rest(
     kind: &[u8],
     readers: &[u8],
@@ -138,9 +130,7 @@ fn header_rest(
 ) -> Result<Header, TextFault>
     ensures { result ≡ header_rest kind.now readers.now rule (ahead numbers.entry) }
 {
-    let Some(kind) = kind_word(kind) else {
-        return Err(TextFault::UnknownWord { field: 1 });
-    };
+    let kind = kind_word(kind).ok_or(TextFault::UnknownWord { field: 1 })?;
     let readers = number_in(readers, 2)?;
     let rule = rule_text(rule, numbers)?;
     Ok(Header {
@@ -151,6 +141,7 @@ fn header_rest(
 }
 
 // The numbers of a rule, which begin at field 4 of the line.
+#[tactic(auto, unfolding(crate::specs::Headers::rule_text))]
 fn rule_text(rule: RuleWord, mut numbers: FieldCursor<'_>) -> Result<RuleText, TextFault>
     ensures { result ≡ rule_text rule (ahead numbers.entry) }
 {

@@ -1,4 +1,4 @@
-//! Scripts as text: their lines, the first line, the call lines, and the lines that answer them.
+//! Scripts as text: their lines, the first line and the rule that it names, the call lines, and the lines that answer them.
 //!
 //! Every reader is equal to its definition in specs/ for every input, and so is the printer. A fault passes up from
 //! figure to text to script with its cause whole.
@@ -9,11 +9,15 @@ mod calls;
 mod examples;
 mod fault;
 mod header;
+mod making;
 mod opening;
+mod rule;
 mod words;
 
-pub use answer::{Answer, answer_of, print_answer};
+pub use answer::print_answer;
 pub use calls::read_call;
 pub use fault::{ScriptFault, TextFault};
 pub use header::{Header, Kind, RuleText, read_header};
+pub use making::make_rule;
 pub use opening::{open_header, open_line};
+pub use rule::ScriptRule;

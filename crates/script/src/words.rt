@@ -8,8 +8,5 @@ use text::number;
 pub fn number_in(word: &[u8], field: u8) -> Result<u32, TextFault>
     ensures { result ≡ number_in word.now field }
 {
-    match number(word) {
-        Some(n) => Ok(n),
-        None => Err(TextFault::BadNumber { field }),
-    }
+    number(word).ok_or(TextFault::BadNumber { field })
 }

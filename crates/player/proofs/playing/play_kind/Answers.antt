@@ -8,7 +8,7 @@ use Rattle.register.specs.Clusters.{Founded, cluster_state, cluster_rule}
 use Rattle.register.specs.declared.service.cluster.Unfounded.{Unfounded}
 use Rattle.text.specs.LineCursors.{lines_ahead}
 use Rattle.player.specs.contracts.rule.questions.ScriptRuleQuorumSystem.TheImpl.{ghosts as script-quorum}
-use Rattle.player.specs.Rules.{rule_said}
+use Rattle.script.specs.Rules.{rule_said}
 use Rattle.player.specs.Playing.{answers, set_up}
 use Rattle.player.proofs.playing.play_kind.Goals as goal
 

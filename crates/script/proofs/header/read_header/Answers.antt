@@ -1,4 +1,4 @@
-use Rattle.std.proofs.Common.{◌≡◌, ◌+◌, [], length, drop, codes, sym, ap, ◌∙◌, arith}
+use Rattle.std.proofs.Common.{◌≡◌, ◌+◌, [], length, drop, Some, codes, sym, ap, ◌∙◌, arith, rules}
 use Rattle.std.specs.Str.{bytes_eq}
 use Rattle.std.proofs.lemmas.List.{drop-drop, get_or-drop}
 use Rattle.text.specs.Fields.{fields, field_at}
@@ -11,7 +11,7 @@ pub returns : goal.returns
 returns c =
     let line = c.args.line.now in
     let fs = fields line in
-    let k = c.in-Some.rule in
+    let k = c.in_ok-rule.rule in
     let p0 = c.over-fields.ensures in
     let p1 : ahead c.next_field-plant.new.self ≡ drop 1 fs = c.next_field-plant.ensures.rest ∙ ap (drop 1) p0 in
     let p2 : ahead c.next_field-kind.new.self ≡ drop 2 fs = c.next_field-kind.ensures.rest ∙ ap (drop 1) p1 ∙ drop-drop 1 1 fs in
@@ -22,6 +22,7 @@ returns c =
     let w2 : c.next_field-readers.result.now ≡ field_at fs 2 = c.next_field-readers.ensures.field ∙ ap (λ x. field_at x 0) p2 ∙ get_or-drop 2 fs 0 [] in
     let w3 : c.next_field-word.result.now ≡ field_at fs 3 = c.next_field-word.ensures.field ∙ ap (λ x. field_at x 0) p3 ∙ get_or-drop 3 fs 0 [] in
     let n : c.count-count.result ≡ length fs = c.count-count.ensures ∙ ap length p0 in
+    let known : c.rule_word.result ≡ Some k = search rules in
     c.header_rest.ensures
     ∙ ap (λ x. header_rest x c.next_field-readers.result.now k (ahead c.next_field-word.new.self)) w1
     ∙ ap (λ x. header_rest (field_at fs 1) x k (ahead c.next_field-word.new.self)) w2
@@ -29,5 +30,5 @@ returns c =
     ∙ header_goes line k (sym c.if-not-is_text.ensures)
     (sym (c.if-not-is_word.ensures ∙ ap (λ x. bytes_eq x (codes "plant")) w0))
     (omega (arith, n))
-    (sym (c.in-Some.ensures ∙ ap rule_word w3))
+    (ap rule_word (sym w3) ∙ sym c.rule_word.ensures ∙ known)
     (sym n ∙ c.if-count-rule_numbers.false ∙ ap (λ x. 4 + x) c.rule_numbers.ensures)

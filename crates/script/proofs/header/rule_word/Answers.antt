@@ -1,23 +1,9 @@
-use Rattle.std.proofs.Common.{rules}
+use Rattle.std.proofs.Common.{codes, sym, ap, rules}
+use Rattle.std.proofs.lemmas.Slice.Eq.{text_from_reads}
 use Rattle.script.specs.Headers.{rule_word}
 use Rattle.script.proofs.header.rule_word.Goals as goal
 
-pub returns-then-is_word : goal.returns-then-is_word
+pub returns-in-groups : goal.returns-in-groups
 unfolding rule_word
-returns-then-is_word c = search rules
-
-pub returns-then-is_word-2 : goal.returns-then-is_word-2
-unfolding rule_word
-returns-then-is_word-2 c = search rules
-
-pub returns-then-is_word-3 : goal.returns-then-is_word-3
-unfolding rule_word
-returns-then-is_word-3 c = search rules
-
-pub returns-then-is_word-4 : goal.returns-then-is_word-4
-unfolding rule_word
-returns-then-is_word-4 c = search rules
-
-pub returns : goal.returns
-unfolding rule_word
-returns c = search rules
+returns-in-groups c =
+    sym (ap rule_word (text_from_reads c.args.word.now (codes "groups") (search rules) (search rules)))

@@ -1,4 +1,4 @@
-ghost use Rattle.player.specs.Rules.{meaning_of};
+ghost use Rattle.script.specs.Rules.{meaning_of};
 
 use super::ScriptRule;
 use quorum::QuorumSystem;

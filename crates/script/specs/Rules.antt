@@ -5,7 +5,7 @@ use Rattle.quorum.specs.Families.{count_rule, grid_rule, lead_rule, grouped_rule
 use Rattle.quorum.specs.declared.by_count.Count.{Count}
 use Rattle.quorum.specs.declared.refusal.RuleRefusal.{RuleRefusal}
 use Rattle.script.specs.declared.header.RuleText.{RuleText}
-use Rattle.player.specs.declared.rule.ScriptRule.{ScriptRule}
+use Rattle.script.specs.declared.rule.ScriptRule.{ScriptRule}
 
 -- The rule that a first line says.
 abbrev pub rule_said : RuleText → Rule
@@ -22,7 +22,7 @@ abbrev pub meaning_of : ScriptRule → Rule
 meaning_of (ScriptRule.Count c) = count_of c
 meaning_of (ScriptRule.Grid g) = grid_rule g.rows g.columns
 meaning_of (ScriptRule.Lead l) = lead_rule (count_of l.below) l.lead
-meaning_of (ScriptRule.Groups g) = grouped_rule g.groups g.places (count_of g.outer) (count_of g.inner)
+meaning_of (ScriptRule.Groups g) = grouped_rule g.outer.size g.inner.size (count_of g.outer) (count_of g.inner)
 
 -- Whether a making answered a rule or a refusal, and which.
 abbrev pub made_rule : Result ScriptRule RuleRefusal → Result (Unit {0}) RuleRefusal
