@@ -1,5 +1,5 @@
 -- A message of sound tables is delivered as the model says.
-use Rattle.std.proofs.Common.{◌≡◌, ℕ, ◌+◌, ◌-◌, ◌<◌, ◌≤◌, true, List, [], ◌++◌, length, get_or, take, Some, None, sym, refl, ap, ◌∙◌, subst, arith, length-append, get_or-take}
+use Rattle.std.proofs.Common.{◌≡◌, ℕ, ◌+◌, ◌-◌, ◌<◌, ◌≤◌, true, List, [], ◌++◌, length, get_or, take, Some, None, sym, refl, ap, ◌∙◌, subst, arith, length-append, get_or-take, Ok}
 use Rattle.std.proofs.lemmas.List.{length-take-le, get_or_read}
 use Rattle.std.proofs.lemmas.Bool.{le-leb, lt-leb, le-ltb, lt-ltb}
 use Rattle.quorum.specs.Sets.{Rule}
@@ -25,6 +25,7 @@ use Rattle.reaction.proofs.Deliverables.{line_there, within_front}
 use Rattle.reaction.proofs.Arrivals.{deliverable, delivers}
 use Rattle.reaction.proofs.Suited.{applicable}
 use Rattle.steps.proofs.Parts.{applied_messages, applied_lines, does_then}
+use Rattle.model.specs.Answers.{Answer}
 
 -- THE MESSAGES after a reaction to the one at a place
 
@@ -139,14 +140,14 @@ module _ {F : Type 0} (rule : Rule) (start : F) (n : Numbers) (t : Tables F) (ke
 
 module _ {F : Type 0} (rule : Rule) (start : F) (n : Numbers) (t : Tables F) (place : ℕ) (r : Reaction F)
     (plan : Planned rule start n t place r) (n₁ : Numbers) (t₁ : Tables F)
-    (gone_out : view start n₁ t₁ ≡ without_message (view start n t) place) (q : Reply F) (n' : Numbers) (t' : Tables F)
+    (gone_out : view start n₁ t₁ ≡ without_message (view start n t) place) (q : Answer F) (n' : Numbers) (t' : Tables F)
     (does : Does start (outcome [] (applied (view start n₁ t₁) n.replicas r)) n₁ t₁ q n' t') where
   then : Does start (outcome [] (applied (without_message (view start n t) place) n.replicas r)) n₁ t₁ q n' t'
   then = subst (λ (x : State F). Does start (outcome [] (applied x n.replicas r)) n₁ t₁ q n' t') gone_out does
 
   answer_done : q ≡ (done rule (view start n t) (Call.Deliver place)).reply
   unfolding done
-  answer_done = then.answer ∙ ap (λ (e : Effect F). e.reply) (sym plan.effect)
+  answer_done = then.answer ∙ ap (λ (e : Effect F). Ok e.reply) (sym plan.effect)
 
   next_done : (outcome [] (applied (without_message (view start n t) place) n.replicas r)).next
       ≡ (done rule (view start n t) (Call.Deliver place)).next
@@ -161,7 +162,7 @@ module _ {F : Type 0} (rule : Rule) (start : F) (n : Numbers) (t : Tables F) (pl
   delivered_state = then.state ∙ next_done ∙ ap (λ (o : Outcome F). o.next) (sym plan.granted)
 
   -- and where the later messages moved up
-  pub deliver_done : Kept n → Fitting n t → Does start (dropped (view start n t) place) n t Reply.Done n₁ t₁
+  pub deliver_done : Kept n → Fitting n t → Does start (dropped (view start n t) place) n t (Ok Reply.Done) n₁ t₁
       → Does start (judged rule (view start n t) (Call.Deliver place)) n t q n' t'
   unfolding dropped
   deliver_done kept fit out =

@@ -1,5 +1,5 @@
 -- A party halted by the register is halted as the model says.
-use Rattle.std.proofs.Common.{◌≡◌, ◌≤◌, true, false, List, length, Some, None, sym, refl, ap, ◌∙◌, arith}
+use Rattle.std.proofs.Common.{◌≡◌, ◌≤◌, true, false, List, length, Some, None, sym, refl, ap, ◌∙◌, arith, Ok, Err}
 use Rattle.std.proofs.lemmas.List.{length-take-le}
 use Rattle.std.proofs.lemmas.Bool.{le-ltb}
 use Rattle.quorum.specs.Sets.{Rule}
@@ -30,14 +30,14 @@ module _ {F : Type 0} (start : F) (rule : Rule) (n : Numbers) (t : Tables F) (ke
   abbrev s : State F
   s = view start n t
 
-  pub halt_absent : absent rule s p ≡ true → Does start (judged rule s (Call.Halt p)) n t (Reply.Declined Refusal.NoSuchParty) n t
+  pub halt_absent : absent rule s p ≡ true → Does start (judged rule s (Call.Halt p)) n t (Err Refusal.NoSuchParty) n t
   unfolding tests
   halt_absent a =
       declines start _ n t Refusal.NoSuchParty kept (omega arith) (omega arith)
       (judged_by rule s (Call.Halt p) _ (Some Refusal.NoSuchParty) refl (rw a))
 
   pub halt_again : absent rule s p ≡ false → halted s p ≡ true
-      → Does start (judged rule s (Call.Halt p)) n t (Reply.Declined Refusal.Halted) n t
+      → Does start (judged rule s (Call.Halt p)) n t (Err Refusal.Halted) n t
   unfolding tests
   halt_again a h =
       declines start _ n t Refusal.Halted kept (omega arith) (omega arith)
@@ -45,7 +45,7 @@ module _ {F : Type 0} (start : F) (rule : Rule) (n : Numbers) (t : Tables F) (ke
 
   pub halt_done : absent rule s p ≡ false → halted s p ≡ false → (n' : Numbers) (t' : Tables F)
       → view start n' t' ≡ stopped s p → t'.messages ≡ t.messages → t'.journal ≡ t.journal → Kept n' → SameSizes n n'
-      → Does start (judged rule s (Call.Halt p)) n t Reply.Done n' t'
+      → Does start (judged rule s (Call.Halt p)) n t (Ok Reply.Done) n' t'
   unfolding tests done halt
   halt_done a h n' t' v em ej k z =
       let w = length-take-le n.waiting t.messages (omega (arith, kept.room)) in

@@ -1,8 +1,7 @@
 -- A call by its tests: the first that holds declines it, and otherwise it is done.
-use Rattle.std.proofs.Common.{◌≡◌, ◌≤◌, Bool, true, false, cond, [], ◌∷◌, ◌++◌, length, Some, None, Option, sym, refl, ap, ◌∙◌, arith}
+use Rattle.std.proofs.Common.{◌≡◌, ◌≤◌, Bool, true, false, cond, [], ◌∷◌, ◌++◌, length, Some, None, Option, sym, refl, ap, ◌∙◌, arith, Err}
 use Rattle.quorum.specs.Sets.{Rule}
 use Rattle.model.specs.declared.calls.Call.{Call}
-use Rattle.model.specs.declared.answers.Reply.{Reply}
 use Rattle.model.specs.declared.answers.Refusal.{Refusal}
 use Rattle.model.specs.State.{State}
 use Rattle.model.specs.Steps.{Outcome, Tests, declined, tests, first_of, overfull, settled, done}
@@ -47,7 +46,7 @@ same_sizes n = record { replicas = refl; readers = refl; message_room = refl; jo
 -- a declined call leaves everything as it was
 pub declines : {F : Type 0} (start : F) (o : Outcome F) (n : Numbers) (t : Tables F) (e : Refusal) → Kept n
     → n.message_room ≤ length t.messages → n.journal_room ≤ length t.journal
-    → o ≡ declined (view start n t) e → Does start o n t (Reply.Declined e) n t
+    → o ≡ declined (view start n t) e → Does start o n t (Err e) n t
 declines start o n t e kept fm fj d = rw d (record {
   answer = refl;
   state = refl;

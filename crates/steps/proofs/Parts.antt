@@ -1,5 +1,5 @@
 -- The parts of a delivery: what finishes, what is sent, and one outcome after another.
-use Rattle.std.proofs.Common.{◌≡◌, ℕ, suc, pred, ◌+◌, ◌-◌, ◌<◌, ◌≤◌, List, [], ◌∷◌, ◌++◌, length, get_or, take, drop, set, Some, None, Option, sym, refl, ap, ◌∙◌, subst, ap₂, sub-one, arith, length-append, length-set, get_or-take, drop-drop, drop_at}
+use Rattle.std.proofs.Common.{◌≡◌, ℕ, suc, pred, ◌+◌, ◌-◌, ◌<◌, ◌≤◌, List, [], ◌∷◌, ◌++◌, length, get_or, take, drop, set, Some, None, Option, sym, refl, ap, ◌∙◌, subst, ap₂, sub-one, arith, length-append, length-set, get_or-take, drop-drop, drop_at, Ok}
 use Rattle.std.proofs.lemmas.List.{length-take-le}
 use Rattle.model.specs.declared.messages.Message.{Message}
 use Rattle.model.specs.declared.messages.MessageKind.{MessageKind}
@@ -30,6 +30,7 @@ use Rattle.steps.proofs.Counting.{counted_all}
 use Rattle.steps.proofs.Sending.{length_to_all}
 use Rattle.steps.proofs.Judging.{same_sizes}
 use Rattle.steps.proofs.Transits.{kept_waiting}
+use Rattle.model.specs.Answers.{Answer}
 
 -- ONE OUTCOME AFTER ANOTHER
 
@@ -54,10 +55,10 @@ module _ {n m l : Numbers} where
   }
 
 -- the second begins where the first has ended, and takes nothing out
-pub does_then : {F : Type 0} {start : F} {n m l : Numbers} {t u v : Tables F} {q r : Reply F} (a b o : Outcome F)
+pub does_then : {F : Type 0} {start : F} {n m l : Numbers} {t u v : Tables F} {q r : Answer F} (a b o : Outcome F)
     → Does start a n t q m u → Does start b m u r l v
     → length a.next.messages ≤ length b.next.messages → length a.next.journal ≤ length b.next.journal
-    → (p : Reply F) → p ≡ o.reply → b.next ≡ o.next → Does start o n t p l v
+    → (p : Answer F) → p ≡ o.reply → b.next ≡ o.next → Does start o n t p l v
 does_then {F} {start} {n} {m} {l} {t} {u} {v} a b o first then more_messages more_lines p reply next = record {
   answer = reply;
   state = then.state ∙ next;
@@ -102,7 +103,7 @@ module _ {F : Type 0} (start : F) (n : Numbers) (t : Tables F) (kept : Kept n)
   lines_are : length (take n.lines t.journal) ≡ n.lines
   lines_are = length-take-le n.lines t.journal lines_fit
 
-  pub ends_none : Does start (ending s None) n t Reply.Done n t
+  pub ends_none : Does start (ending s None) n t (Ok Reply.Done) n t
   ends_none = record {
     answer = refl;
     state = refl;
@@ -141,10 +142,10 @@ module _ {F : Type 0} (start : F) (n : Numbers) (t : Tables F) (kept : Kept n)
         (sym found) (sym lines_are)
 
     pub ends_some : Does start (ending s (Some f)) n t
-        (Reply.Finished f.operation f.stamp f.figure row.sent f.exchanges) (with_finished n (one_more n.finished))
+        (Ok (Reply.Finished f.operation f.stamp f.figure row.sent f.exchanges)) (with_finished n (one_more n.finished))
         (tables t.replicas t.readers t.marks t.messages (set t.journal (f.operation - 1) (ends row n.lines)))
     ends_some = record {
-      answer = ap (λ (x : Operation F). Reply.Finished f.operation f.stamp f.figure x.sent f.exchanges) (sym found);
+      answer = ap (λ (x : Operation F). Ok (Reply.Finished f.operation f.stamp f.figure x.sent f.exchanges)) (sym found);
       state =
           ap (λ (js : List (Operation F)). with_journal s js (one_more n.finished))
           (ap (λ (js : List (Operation F)). take n.lines js) written
@@ -171,7 +172,7 @@ module _ {F : Type 0} (start : F) (n : Numbers) (t : Tables F) (kept : Kept n)
     tallied_are : length tallied ≡ n.lines
     tallied_are = counted_length start (take n.lines t.journal) l ∙ lines_are
 
-    pub sends : Does start (sending_all s l) n t Reply.Done (with_waiting n (n.waiting + length l))
+    pub sends : Does start (sending_all s l) n t (Ok Reply.Done) (with_waiting n (n.waiting + length l))
         (tables t.replicas t.readers t.marks (stored more_wait t.messages) (stored tallied t.journal))
     sends = record {
       answer = refl;
@@ -289,17 +290,17 @@ module _ {F : Type 0} (start : F) (n : Numbers) (t : Tables F) (kept : Kept n)
       t.messages t.journal
 
   abbrev record_change : Outcome F
-  record_change = record { reply = Reply.Done; taken = []; sent = []; next = with_records before r }
+  record_change = record { reply = Ok Reply.Done; taken = []; sent = []; next = with_records before r }
 
   abbrev record_end : Outcome F
   record_end = record {
-    reply = reply_of before r.finish;
+    reply = Ok (reply_of before r.finish);
     taken = [];
     sent = [];
     next = with_finish_of (with_records before r) r.finish;
   }
 
-  changes : Does start record_change n t Reply.Done n₁ t₁
+  changes : Does start record_change n t (Ok Reply.Done) n₁ t₁
   changes = record {
     answer = refl;
     state = refl;
@@ -309,10 +310,10 @@ module _ {F : Type 0} (start : F) (n : Numbers) (t : Tables F) (kept : Kept n)
     sizes = record { replicas = refl; readers = refl; message_room = refl; journal_room = refl };
   }
 
-  pub applies : (w : Writer) → w ≡ writer_changed n.writer r.writer → (q : Reply F) (n₂ : Numbers) (t₂ : Tables F)
+  pub applies : (w : Writer) → w ≡ writer_changed n.writer r.writer → (q : Answer F) (n₂ : Numbers) (t₂ : Tables F)
       → Does start (ending (view start (with_writer n w) t₁) r.finish) (with_writer n w) t₁ q n₂ t₂
       → (size : ℕ) → size ≡ n.replicas → (n₃ : Numbers) (t₃ : Tables F)
-      → Does start (sending_all (view start n₂ t₂) (sent_by size r.post)) n₂ t₂ Reply.Done n₃ t₃
+      → Does start (sending_all (view start n₂ t₂) (sent_by size r.post)) n₂ t₂ (Ok Reply.Done) n₃ t₃
       → Does start (outcome [] (applied before n.replicas r)) n t q n₃ t₃
   unfolding applied
   applies w is q n₂ t₂ ends size e n₃ t₃ sent =
@@ -323,12 +324,12 @@ module _ {F : Type 0} (start : F) (n : Numbers) (t : Tables F) (kept : Kept n)
       = does_then record_change (ending (view start n₁ t₁) r.finish) record_end changes ended
       (omega (arith, ap length (messages_stay (with_records before r) r.finish)))
       (omega (arith, lines_stay (with_records before r) r.finish))
-      q (ended.answer ∙ same_reply before r r.finish) refl in
+      q (ended.answer ∙ ap (λ (x : Reply F). Ok x) (same_reply before r r.finish)) refl in
       let same : view start n₂ t₂ ≡ record_end.next = ended.state in
-      let sent_all : Does start (sending_all record_end.next post) n₂ t₂ Reply.Done n₃ t₃
-      = subst (λ (l : List (Message F)). Does start (sending_all record_end.next l) n₂ t₂ Reply.Done n₃ t₃)
+      let sent_all : Does start (sending_all record_end.next post) n₂ t₂ (Ok Reply.Done) n₃ t₃
+      = subst (λ (l : List (Message F)). Does start (sending_all record_end.next l) n₂ t₂ (Ok Reply.Done) n₃ t₃)
       (ap (λ (k : ℕ). sent_by k r.post) e)
-      (subst (λ (s : State F). Does start (sending_all s (sent_by size r.post)) n₂ t₂ Reply.Done n₃ t₃) same sent) in
+      (subst (λ (s : State F). Does start (sending_all s (sent_by size r.post)) n₂ t₂ (Ok Reply.Done) n₃ t₃) same sent) in
       does_then record_end (sending_all record_end.next post) (outcome [] (applied before n.replicas r)) first sent_all
       (omega (arith, length-append record_end.next.messages post))
       (omega (arith, counted_length record_end.next.start record_end.next.journal post))

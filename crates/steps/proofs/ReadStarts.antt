@@ -1,5 +1,5 @@
 -- The register's read is the model's.
-use Rattle.std.proofs.Common.{◌≡◌, ℕ, suc, ◌+◌, ◌<◌, ◌≤◌, [], ◌∷◌, ◌++◌, length, get_or, take, set, Some, None, Option, refl, subst, arith}
+use Rattle.std.proofs.Common.{◌≡◌, ℕ, suc, ◌+◌, ◌<◌, ◌≤◌, [], ◌∷◌, ◌++◌, length, get_or, take, set, Some, None, Option, refl, subst, arith, Ok, Err}
 use Rattle.quorum.specs.Sets.{Rule}
 use Rattle.model.specs.declared.parties.Party.{Party}
 use Rattle.model.specs.declared.journal.OperationKind.{OperationKind}
@@ -41,7 +41,7 @@ module _ {F : Type 0} (start : F) (rule : Rule) (n : Numbers) (t : Tables F) (ke
   verdict v e = judged_by rule s (Call.Read r kind) (read_tests start n t.readers r) v tests_are e
 
   pub read_declined : (e : Refusal) → Some e ≡ first_of (read_tests start n t.readers r)
-      → Does start (judged rule s (Call.Read r kind)) n t (Reply.Declined e) n t
+      → Does start (judged rule s (Call.Read r kind)) n t (Err e) n t
   read_declined e v = declines start _ n t e kept (omega arith) (omega arith) (verdict (Some e) v)
 
   -- the start of a read under a stamp and a number
@@ -53,7 +53,7 @@ module _ {F : Type 0} (start : F) (rule : Rule) (n : Numbers) (t : Tables F) (ke
 
   abbrev After : Stamp → ℕ → Reader F → Type 0
   After z i d =
-      Does start (done rule s (Call.Read r kind)) n t (Reply.Started (n.lines + 1)) (started n n.writer)
+      Does start (done rule s (Call.Read r kind)) n t (Ok (Reply.Started (n.lines + 1))) (started n n.writer)
       (tables t.replicas (set t.readers r (reader_at z i d)) t.marks
       (stored (take n.waiting t.messages ++ to_all n.replicas (opening_message kind) (n.lines + 1) (Party.Reader r) (shown_at z)) t.messages)
       (stored (take n.lines t.journal
@@ -81,7 +81,7 @@ module _ {F : Type 0} (start : F) (rule : Rule) (n : Numbers) (t : Tables F) (ke
 
   pub read_done : None ≡ first_of (read_tests start n t.readers r) → n.waiting + n.replicas ≤ n.message_room
       → n.lines < n.journal_room → (d : Reader F) → get_or t.readers r (new_reader start) ≡ d
-      → Does start (judged rule s (Call.Read r kind)) n t (Reply.Started (n.lines + 1)) (started n n.writer)
+      → Does start (judged rule s (Call.Read r kind)) n t (Ok (Reply.Started (n.lines + 1))) (started n n.writer)
       (tables t.replicas (set t.readers r (reader_at 0 (n.lines + 1) d)) t.marks
       (stored (take n.waiting t.messages ++ to_all n.replicas (opening_message kind) (n.lines + 1) (Party.Reader r) (shown_at 0)) t.messages)
       (stored (take n.lines t.journal

@@ -1,5 +1,5 @@
 -- An operation that starts by the register's numbers starts as the model says.
-use Rattle.std.proofs.Common.{◌≡◌, ℕ, suc, pred, ◌+◌, ◌<◌, ◌≤◌, min, List, [], ◌∷◌, ◌++◌, length, take, sym, refl, ap, ◌∙◌, ap₂, arith, length-append}
+use Rattle.std.proofs.Common.{◌≡◌, ℕ, suc, pred, ◌+◌, ◌<◌, ◌≤◌, min, List, [], ◌∷◌, ◌++◌, length, take, sym, refl, ap, ◌∙◌, ap₂, arith, length-append, Ok}
 use Rattle.std.proofs.lemmas.List.{length-take-le, length_push}
 use Rattle.quorum.specs.Sets.{Rule}
 use Rattle.model.specs.declared.messages.Message.{Message}
@@ -65,7 +65,7 @@ module _ {F : Type 0} (start : F) (rule : Rule) (n : Numbers) (t : Tables F) (ke
 
     abbrev pub opens : Outcome F
     opens = record {
-      reply = Reply.Started (suc (length (take n.lines t.journal)));
+      reply = Ok (Reply.Started (suc (length (take n.lines t.journal))));
       taken = [];
       sent = sends;
       next =
@@ -102,7 +102,7 @@ module _ {F : Type 0} (start : F) (rule : Rule) (n : Numbers) (t : Tables F) (ke
     lines_long = length_push (take n.lines t.journal) (opened_line n kind request) ∙ ap (λ (k : ℕ). k + 1) lines_are
 
     pub starts : n.waiting + n.replicas ≤ n.message_room → n.lines < n.journal_room → w.last ≤ n.lines + 1
-        → Does start opens n t (Reply.Started (n.lines + 1)) (started n w)
+        → Does start opens n t (Ok (Reply.Started (n.lines + 1))) (started n w)
         (tables t.replicas ds t.marks (stored messages_now t.messages) (stored lines_now t.journal))
     starts room line stamp =
         let l = lines_are in
@@ -111,7 +111,7 @@ module _ {F : Type 0} (start : F) (rule : Rule) (n : Numbers) (t : Tables F) (ke
         let front = take_stored messages_now t.messages (n.waiting + n.replicas) messages_long in
         let lines = take_stored lines_now t.journal (n.lines + 1) lines_long in
         record {
-          answer = ap (λ (i : ℕ). Reply.Started i) answer;
+          answer = ap (λ (i : ℕ). Ok (Reply.Started i)) answer;
           state =
               ap₂ (λ (ms : List (Message F)) (js : List (Operation F)).
               with_tables s w t.replicas ds t.marks ms js n.finished)

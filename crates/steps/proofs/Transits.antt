@@ -1,5 +1,5 @@
 -- A message dropped or copied by the register's numbers is dropped or copied as the model says.
-use Rattle.std.proofs.Common.{◌≡◌, ℕ, ◌+◌, ◌-◌, ◌<◌, ◌≤◌, List, [], ◌∷◌, ◌++◌, length, get_or, take, Some, None, sym, refl, ap, ◌∙◌, subst, arith, get_or-take}
+use Rattle.std.proofs.Common.{◌≡◌, ℕ, ◌+◌, ◌-◌, ◌<◌, ◌≤◌, List, [], ◌∷◌, ◌++◌, length, get_or, take, Some, None, sym, refl, ap, ◌∙◌, subst, arith, get_or-take, Ok, Err}
 use Rattle.std.proofs.lemmas.List.{length-take-le, length_push, get_or_read}
 use Rattle.std.proofs.lemmas.Bool.{le-leb, lt-leb, le-ltb, lt-ltb}
 use Rattle.quorum.specs.Sets.{Rule}
@@ -53,7 +53,7 @@ module _ {F : Type 0} (start : F) (rule : Rule) (n : Numbers) (t : Tables F) (ke
     gone = without (take n.waiting t.messages) place
 
     pub drop_declined : n.waiting ≤ place
-        → Does start (judged rule s (Call.Drop place)) n t (Reply.Declined Refusal.NoMessage) n t
+        → Does start (judged rule s (Call.Drop place)) n t (Err Refusal.NoMessage) n t
     unfolding tests
     drop_declined le =
         let w = waiting_is in
@@ -69,7 +69,7 @@ module _ {F : Type 0} (start : F) (rule : Rule) (n : Numbers) (t : Tables F) (ke
 
     -- the message is taken out, and the later ones move up
     pub taken_out : place < n.waiting
-        → Does start (dropped s place) n t Reply.Done (with_waiting n (n.waiting - 1))
+        → Does start (dropped s place) n t (Ok Reply.Done) (with_waiting n (n.waiting - 1))
         (tables t.replicas t.readers t.marks (stored gone t.messages) t.journal)
     unfolding dropped
     taken_out lt = record {
@@ -82,7 +82,7 @@ module _ {F : Type 0} (start : F) (rule : Rule) (n : Numbers) (t : Tables F) (ke
     }
 
     pub drop_done : place < n.waiting
-        → Does start (judged rule s (Call.Drop place)) n t Reply.Done (with_waiting n (n.waiting - 1))
+        → Does start (judged rule s (Call.Drop place)) n t (Ok Reply.Done) (with_waiting n (n.waiting - 1))
         (tables t.replicas t.readers t.marks (stored gone t.messages) t.journal)
     unfolding tests done dropped
     drop_done lt =
@@ -94,7 +94,7 @@ module _ {F : Type 0} (start : F) (rule : Rule) (n : Numbers) (t : Tables F) (ke
         rw (judged_by rule s (Call.Drop place) _ None refl (rw (lt-leb _ _ l, le-ltb _ _ room))) (taken_out lt)
 
     pub duplicate_absent : n.waiting ≤ place
-        → Does start (judged rule s (Call.Duplicate place)) n t (Reply.Declined Refusal.NoMessage) n t
+        → Does start (judged rule s (Call.Duplicate place)) n t (Err Refusal.NoMessage) n t
     unfolding tests
     duplicate_absent le =
         let w = waiting_is in
@@ -109,7 +109,7 @@ module _ {F : Type 0} (start : F) (rule : Rule) (n : Numbers) (t : Tables F) (ke
     copied_long m = length_push (take n.waiting t.messages) m ∙ ap (λ (k : ℕ). k + 1) waiting_is
 
     pub duplicate_full : place < n.waiting → n.message_room ≤ n.waiting
-        → Does start (judged rule s (Call.Duplicate place)) n t (Reply.Declined Refusal.NoRoom) n t
+        → Does start (judged rule s (Call.Duplicate place)) n t (Err Refusal.NoRoom) n t
     unfolding tests done duplicated
     duplicate_full lt full =
         let w = waiting_is in
@@ -120,7 +120,7 @@ module _ {F : Type 0} (start : F) (rule : Rule) (n : Numbers) (t : Tables F) (ke
         (judged_by rule s (Call.Duplicate place) _ (Some Refusal.NoRoom) refl (rw (lt-leb _ _ l, lt-ltb _ _ over)))
 
     pub duplicate_done : place < n.waiting → n.waiting < n.message_room → (m : Message F) → m ≡ get_or t.messages place m
-        → Does start (judged rule s (Call.Duplicate place)) n t Reply.Done (with_waiting n (n.waiting + 1))
+        → Does start (judged rule s (Call.Duplicate place)) n t (Ok Reply.Done) (with_waiting n (n.waiting + 1))
         (tables t.replicas t.readers t.marks (stored (copied m) t.messages) t.journal)
     unfolding tests done duplicated
     duplicate_done lt room m is =
@@ -130,7 +130,7 @@ module _ {F : Type 0} (start : F) (rule : Rule) (n : Numbers) (t : Tables F) (ke
         let fits : length (copied (message s place)) ≤ n.message_room = omega arith in
         let found : message s place ≡ m = get_or-take n.waiting t.messages place (no_message start) lt ∙ sym (get_or_read t.messages place m (omega arith) is (no_message start)) in
         rw (judged_by rule s (Call.Duplicate place) _ None refl (rw (lt-leb _ _ l, le-ltb _ _ fits)))
-        (subst (λ (x : Message F). Does start (done rule s (Call.Duplicate place)) n t Reply.Done (with_waiting n (n.waiting + 1))
+        (subst (λ (x : Message F). Does start (done rule s (Call.Duplicate place)) n t (Ok Reply.Done) (with_waiting n (n.waiting + 1))
         (tables t.replicas t.readers t.marks (stored (copied x) t.messages) t.journal)) found (record {
           answer = refl;
           state = view_waiting (n.waiting + 1) (copied (message s place)) c;

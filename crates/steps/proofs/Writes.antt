@@ -1,5 +1,5 @@
 -- The register's write is the model's.
-use Rattle.std.proofs.Common.{◌≡◌, ℕ, suc, ◌+◌, ◌<◌, ◌≤◌, [], ◌∷◌, ◌++◌, length, take, Some, None, Option, sym, subst, add-one, arith}
+use Rattle.std.proofs.Common.{◌≡◌, ℕ, suc, ◌+◌, ◌<◌, ◌≤◌, [], ◌∷◌, ◌++◌, length, take, Some, None, Option, sym, subst, add-one, arith, Ok, Err}
 use Rattle.quorum.specs.Sets.{Rule}
 use Rattle.model.specs.declared.messages.MessageKind.{MessageKind}
 use Rattle.model.specs.declared.parties.Party.{Party}
@@ -40,7 +40,7 @@ module _ {F : Type 0} (start : F) (rule : Rule) (n : Numbers) (t : Tables F) (ke
   verdict v e = judged_by rule s (Call.Write figure) (write_tests n) v tests_are e
 
   pub write_declined : (e : Refusal) → Some e ≡ first_of (write_tests n)
-      → Does start (judged rule s (Call.Write figure)) n t (Reply.Declined e) n t
+      → Does start (judged rule s (Call.Write figure)) n t (Err e) n t
   write_declined e v = declines start _ n t e kept (omega arith) (omega arith) (verdict (Some e) v)
 
   -- the writer, and what it writes, under a stamp and a number
@@ -52,7 +52,7 @@ module _ {F : Type 0} (start : F) (rule : Rule) (n : Numbers) (t : Tables F) (ke
 
   abbrev After : Stamp → ℕ → Type 0
   After st i =
-      Does start (done rule s (Call.Write figure)) n t (Reply.Started (n.lines + 1)) (started n (writer_at st i))
+      Does start (done rule s (Call.Write figure)) n t (Ok (Reply.Started (n.lines + 1))) (started n (writer_at st i))
       (tables t.replicas t.readers t.marks
       (stored (take n.waiting t.messages ++ to_all n.replicas MessageKind.Put (n.lines + 1) Party.Writer (written_at st)) t.messages)
       (stored (take n.lines t.journal
@@ -76,7 +76,7 @@ module _ {F : Type 0} (start : F) (rule : Rule) (n : Numbers) (t : Tables F) (ke
       (subst (λ (k : ℕ). After (next_stamp n.writer.last) k) i (first_after room line))
 
   pub write_done : None ≡ first_of (write_tests n) → n.waiting + n.replicas ≤ n.message_room → n.lines < n.journal_room
-      → Does start (judged rule s (Call.Write figure)) n t (Reply.Started (n.lines + 1))
+      → Does start (judged rule s (Call.Write figure)) n t (Ok (Reply.Started (n.lines + 1)))
       (started n (writer_at (n.writer.last + 1) (n.lines + 1)))
       (tables t.replicas t.readers t.marks
       (stored (take n.waiting t.messages ++ to_all n.replicas MessageKind.Put (n.lines + 1) Party.Writer (written_at (n.writer.last + 1))) t.messages)

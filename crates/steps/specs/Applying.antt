@@ -1,5 +1,5 @@
 -- What the parts of a reaction come to, each as an outcome of its own.
-use Rattle.std.specs.Prelude.{ℕ, List, [], Some, None, Option}
+use Rattle.std.specs.Prelude.{ℕ, List, [], Some, None, Option, Ok}
 use Rattle.model.specs.declared.messages.Message.{Message}
 use Rattle.model.specs.declared.journal.Operation.{Operation}
 use Rattle.model.specs.declared.answers.Reply.{Reply}
@@ -21,7 +21,7 @@ numbers_ended n None = n
 numbers_ended n (Some f) = with_finished n (one_more n.finished)
 
 abbrev pub ending : {F : Type 0} → State F → Option (Finish F) → Outcome F
-ending s f = record { reply = reply_of s f; taken = []; sent = []; next = with_finish_of s f }
+ending s f = record { reply = Ok (reply_of s f); taken = []; sent = []; next = with_finish_of s f }
 
 abbrev pub sending_all : {F : Type 0} → State F → List (Message F) → Outcome F
-sending_all s l = record { reply = Reply.Done; taken = []; sent = l; next = posted s l }
+sending_all s l = record { reply = Ok Reply.Done; taken = []; sent = l; next = posted s l }

@@ -2,7 +2,7 @@
 use Rattle.std.specs.Prelude.{◌≡◌, ℕ, ◌+◌, List, [], ◌∷◌, length, nat_le, nat_lt, slice_index_or}
 use Rattle.quorum.specs.Sets.{Rule}
 use Rattle.model.specs.declared.calls.Call.{Call}
-use Rattle.model.specs.declared.answers.Reply.{Reply}
+use Rattle.model.specs.Answers.{Answer}
 use Rattle.model.specs.declared.answers.Refusal.{Refusal}
 use Rattle.model.specs.declared.reader.Reader.{Reader}
 use Rattle.model.specs.State.{State, stored, new_reader}
@@ -23,7 +23,7 @@ pub record SameSizes (n after : Numbers) : Type 0 where
 
 -- The answer and what is left are those of the outcome. Places of the messages and the journal that are not in use keep
 -- what they held.
-pub record Does {F : Type 0} (start : F) (o : Outcome F) (n : Numbers) (t : Tables F) (r : Reply F) (n' : Numbers)
+pub record Does {F : Type 0} (start : F) (o : Outcome F) (n : Numbers) (t : Tables F) (r : Answer F) (n' : Numbers)
     (t' : Tables F) : Type 0 where
   pub answer : r ≡ o.reply
   pub state : view start n' t' ≡ o.next
@@ -34,19 +34,19 @@ pub record Does {F : Type 0} (start : F) (o : Outcome F) (n : Numbers) (t : Tabl
 
 -- The refusals of a call by the numbers alone, in their order, with the room for what it would send last.
 
-abbrev pub write_tests : Numbers → Tests
-write_tests n =
-    (n.writer.halted, Refusal.Halted)
-    ∷ (busy n.writer.operation, Refusal.Busy)
-    ∷ (nat_le n.journal_room n.lines, Refusal.JournalFull)
+-- Room for the line of an operation, and for its first messages.
+abbrev pub room_tests : Numbers → Tests
+room_tests n =
+    (nat_le n.journal_room n.lines, Refusal.JournalFull)
     ∷ (nat_lt n.message_room (n.waiting + n.replicas), Refusal.NoRoom)
     ∷ []
+
+abbrev pub write_tests : Numbers → Tests
+write_tests n = (n.writer.halted, Refusal.Halted) ∷ (busy n.writer.operation, Refusal.Busy) ∷ room_tests n
 
 abbrev pub read_tests : {F : Type 0} → F → Numbers → List (Reader F) → ℕ → Tests
 read_tests start n ds r =
     (nat_le (length ds) r, Refusal.NoSuchParty)
     ∷ ((slice_index_or ds r (new_reader start)).halted, Refusal.Halted)
     ∷ (busy (slice_index_or ds r (new_reader start)).operation, Refusal.Busy)
-    ∷ (nat_le n.journal_room n.lines, Refusal.JournalFull)
-    ∷ (nat_lt n.message_room (n.waiting + n.replicas), Refusal.NoRoom)
-    ∷ []
+    ∷ room_tests n

@@ -1,4 +1,4 @@
-ghost use Rattle.std.specs.Prelude.{◌≡◌, ◌+◌, ◌-◌, ◌<◌, ◌≤◌, List, ◌++◌, length, get_or, take, set, slice_index_or, slice_set};
+ghost use Rattle.std.specs.Prelude.{◌≡◌, ◌+◌, ◌-◌, ◌<◌, ◌≤◌, List, ◌++◌, length, get_or, take, set, slice_index_or, slice_set, Ok};
 ghost use Rattle.model.specs.State.{stored, no_line};
 ghost use Rattle.model.specs.Steps.{counted};
 ghost use Rattle.model.specs.declared.answers.Reply.{Reply as ModelReply};
@@ -109,7 +109,7 @@ pub fn finish_operation<F: Copy>(
         → Does start
         (ending (view start numbers.old (tables rs ds ks ms journal.old)) finish)
         numbers.old (tables rs ds ks ms journal.old)
-        result
+        (Ok result)
         numbers.new (tables rs ds ks ms journal.new) }
 {
     let Some(finish) = finish else {
@@ -160,7 +160,7 @@ pub fn post<F: Copy>(
         → Does start
         (sending_all (view start numbers.old (tables rs ds ks messages.old journal.old)) (sent_by numbers.old.replicas post))
         numbers.old (tables rs ds ks messages.old journal.old)
-        ModelReply.Done
+        (Ok ModelReply.Done)
         numbers.new (tables rs ds ks messages.new journal.new) }
 {
     let size = numbers.replicas;

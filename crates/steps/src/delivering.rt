@@ -1,4 +1,4 @@
-ghost use Rattle.std.specs.Prelude.{◌≡◌, ◌+◌, ◌≤◌, true, [], length};
+ghost use Rattle.std.specs.Prelude.{◌≡◌, ◌+◌, ◌≤◌, true, [], length, Ok};
 ghost use Rattle.model.specs.Sound.{sound as is_sound};
 ghost use Rattle.model.specs.Steps.{outcome};
 ghost use Rattle.model.specs.declared.calls.Call.{Call as ModelCall};
@@ -26,7 +26,7 @@ pub fn deliver_message<R: QuorumSystem, F: Copy>(
     messages: &mut [Message<F>],
     journal: &mut [Operation<F>],
     place: u32,
-) -> Reply<F>
+) -> Result<Reply<F>, Refusal>
     requires kept { Kept numbers.old }
     requires fits { Fitting numbers.old (tables replicas.old readers.old marks.old messages.old journal.old) }
     requires sound { is_sound (rule_for R.QuorumSystem rule.now numbers.old.replicas) (view start numbers.old (tables replicas.old readers.old marks.old messages.old journal.old)) ≡ true }
@@ -36,18 +36,14 @@ pub fn deliver_message<R: QuorumSystem, F: Copy>(
         result
         numbers.new (tables replicas.new readers.new marks.new messages.new journal.new) }
 {
-    match plan_delivery(
+    let reaction = plan_delivery(
         rule, start, numbers, replicas, readers, marks, messages, journal, place,
-    ) {
-        Err(refusal) => Reply::Declined(refusal),
-        Ok(reaction) => {
-            remove_at(messages, numbers.waiting, place as usize);
-            numbers.waiting -= 1;
-            apply(
-                numbers, replicas, readers, marks, messages, journal, reaction,
-            )
-        }
-    }
+    )?;
+    remove_at(messages, numbers.waiting, place as usize);
+    numbers.waiting -= 1;
+    Ok(apply(
+        numbers, replicas, readers, marks, messages, journal, reaction,
+    ))
 }
 
 /// What the delivery of the message at a place of sound tables will do, or why it is declined.
@@ -106,7 +102,7 @@ pub fn apply<F: Copy>(
     ensures { (start : F) → Does start
         (outcome [] (applied (view start numbers.old (tables replicas.old readers.old marks.old messages.old journal.old)) numbers.old.replicas reaction))
         numbers.old (tables replicas.old readers.old marks.old messages.old journal.old)
-        result
+        (Ok result)
         numbers.new (tables replicas.new readers.new marks.new messages.new journal.new) }
 {
     change(replicas, reaction.replica);
@@ -122,8 +118,5 @@ pub fn apply<F: Copy>(
 fn changed_writer(writer: Writer, to: Option<Writer>) -> Writer
     ensures { result ≡ writer_changed writer to }
 {
-    match to {
-        Some(changed) => changed,
-        None => writer,
-    }
+    to.unwrap_or(writer)
 }

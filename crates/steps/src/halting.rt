@@ -19,7 +19,7 @@ pub fn halt_party<F: Copy>(
     replicas: &mut [Replica<F>],
     readers: &mut [Reader<F>],
     party: Party,
-) -> Reply<F>
+) -> Result<Reply<F>, Refusal>
     requires { Kept numbers.old }
     ensures { (start : F) (rule : QuorumRule) (ks : List MarkRow) (ms : List (MessageRow F)) (ls : List (JournalRow F))
         → rule.size ≡ length replicas.old
@@ -37,7 +37,7 @@ pub fn halt_party<F: Copy>(
 }
 
 // Stops the writer.
-pub fn halt_writer<F: Copy>(numbers: &mut Numbers) -> Reply<F>
+pub fn halt_writer<F: Copy>(numbers: &mut Numbers) -> Result<Reply<F>, Refusal>
     requires { Kept numbers.old }
     ensures { (start : F) (rule : QuorumRule) (rs : List (ReplicaRow F)) (ds : List (ReaderRow F)) (ks : List MarkRow) (ms : List (MessageRow F)) (ls : List (JournalRow F))
         → length ms ≡ numbers.old.message_room → length ls ≡ numbers.old.journal_room
@@ -46,17 +46,21 @@ pub fn halt_writer<F: Copy>(numbers: &mut Numbers) -> Reply<F>
 {
     let writer = numbers.writer;
     if writer.halted {
-        return Reply::Declined(Refusal::Halted);
+        return Err(Refusal::Halted);
     }
     numbers.writer = Writer {
         halted: true,
         ..writer
     };
-    Reply::Done
+    Ok(Reply::Done)
 }
 
 // Stops a reader.
-pub fn halt_reader<F: Copy>(numbers: &Numbers, readers: &mut [Reader<F>], reader: u32) -> Reply<F>
+pub fn halt_reader<F: Copy>(
+    numbers: &Numbers,
+    readers: &mut [Reader<F>],
+    reader: u32,
+) -> Result<Reply<F>, Refusal>
     requires { Kept numbers.now }
     ensures { (start : F) (rule : QuorumRule) (rs : List (ReplicaRow F)) (ks : List MarkRow) (ms : List (MessageRow F)) (ls : List (JournalRow F))
         → length ms ≡ numbers.now.message_room → length ls ≡ numbers.now.journal_room
@@ -65,17 +69,17 @@ pub fn halt_reader<F: Copy>(numbers: &Numbers, readers: &mut [Reader<F>], reader
 {
     let at = reader as usize;
     if at >= readers.len() {
-        return Reply::Declined(Refusal::NoSuchParty);
+        return Err(Refusal::NoSuchParty);
     }
     let row = readers[at];
     if row.halted {
-        return Reply::Declined(Refusal::Halted);
+        return Err(Refusal::Halted);
     }
     readers[at] = Reader {
         halted: true,
         ..row
     };
-    Reply::Done
+    Ok(Reply::Done)
 }
 
 // Stops a replica.
@@ -83,7 +87,7 @@ pub fn halt_replica<F: Copy>(
     numbers: &Numbers,
     replicas: &mut [Replica<F>],
     replica: u32,
-) -> Reply<F>
+) -> Result<Reply<F>, Refusal>
     requires { Kept numbers.now }
     ensures { (start : F) (rule : QuorumRule) (ds : List (ReaderRow F)) (ks : List MarkRow) (ms : List (MessageRow F)) (ls : List (JournalRow F))
         → rule.size ≡ length replicas.old
@@ -93,15 +97,15 @@ pub fn halt_replica<F: Copy>(
 {
     let at = replica as usize;
     if at >= replicas.len() {
-        return Reply::Declined(Refusal::NoSuchParty);
+        return Err(Refusal::NoSuchParty);
     }
     let row = replicas[at];
     if row.halted {
-        return Reply::Declined(Refusal::Halted);
+        return Err(Refusal::Halted);
     }
     replicas[at] = Replica {
         halted: true,
         ..row
     };
-    Reply::Done
+    Ok(Reply::Done)
 }

@@ -1,4 +1,4 @@
-ghost use Rattle.std.specs.Prelude.{◌≡◌, ◌+◌, ◌<◌, ◌≤◌, true, [], length};
+ghost use Rattle.std.specs.Prelude.{◌≡◌, ◌+◌, ◌<◌, ◌≤◌, true, [], length, Ok};
 ghost use Rattle.model.specs.Sound.{sound as is_sound};
 ghost use Rattle.model.specs.Steps.{outcome};
 ghost use Rattle.model.specs.declared.calls.Call.{Call as ModelCall};
@@ -19,7 +19,7 @@ use tables::Numbers;
 /// The answer to a call, and where the table of messages begins then.
 #[derive(Clone, Copy)]
 pub struct Queued<F> {
-    pub reply: Reply<F>,
+    pub reply: Result<Reply<F>, Refusal>,
     pub head: usize,
 }
 
@@ -89,7 +89,7 @@ fn deliver_queued<R: QuorumSystem, F: Copy>(
         rule, start, numbers, replicas, readers, marks, buffer, head, journal, place,
     ) {
         Err(refusal) => Queued {
-            reply: Reply::Declined(refusal),
+            reply: Err(refusal),
             head,
         },
         Ok(reaction) => {
@@ -98,7 +98,10 @@ fn deliver_queued<R: QuorumSystem, F: Copy>(
             let reply = apply_queued(
                 numbers, replicas, readers, marks, buffer, head, journal, reaction,
             );
-            Queued { reply, head }
+            Queued {
+                reply: Ok(reply),
+                head,
+            }
         }
     }
 }
@@ -148,7 +151,7 @@ fn apply_queued<F: Copy>(
     ensures { (start : F) → Does start
         (outcome [] (applied (view start numbers.old (tables replicas.old readers.old marks.old (window head numbers.old.message_room buffer.old) journal.old)) numbers.old.replicas reaction))
         numbers.old (tables replicas.old readers.old marks.old (window head numbers.old.message_room buffer.old) journal.old)
-        result
+        (Ok result)
         numbers.new (tables replicas.new readers.new marks.new (window head numbers.old.message_room buffer.new) journal.new) }
 {
     let room = numbers.message_room;

@@ -1,4 +1,5 @@
-ghost use Rattle.std.specs.Prelude.{◌≡◌, ◌+◌, ◌<◌, ◌≤◌, List, [], ◌∷◌, ◌++◌, length, take, IfNone};
+ghost use Rattle.std.specs.Prelude.{◌≡◌, ◌+◌, ◌<◌, ◌≤◌, List, [], ◌∷◌, ◌++◌, length, take, OnOk};
+ghost use Rattle.std.specs.Result.{result_err};
 ghost use Rattle.quorum.specs.Sets.{Rule as QuorumRule};
 ghost use Rattle.model.specs.State.{stored};
 ghost use Rattle.model.specs.Steps.{first_of, opening_phase, opening_message};
@@ -10,7 +11,7 @@ ghost use Rattle.model.specs.declared.marks.RelayMark.{RelayMark as MarkRow};
 ghost use Rattle.tables.specs.View.{tables, view, Kept};
 ghost use Rattle.steps.specs.Posting.{carries};
 ghost use Rattle.steps.specs.Starting.{with_one_more, opened_line, ReadClear};
-ghost use Rattle.steps.specs.Doing.{judged, Does, write_tests, read_tests};
+ghost use Rattle.steps.specs.Doing.{judged, Does, room_tests, write_tests, read_tests};
 
 use crate::tools::{append, send_all};
 use model::{
@@ -25,7 +26,7 @@ pub fn start_write<F: Copy>(
     messages: &mut [Message<F>],
     journal: &mut [Operation<F>],
     figure: F,
-) -> Reply<F>
+) -> Result<Reply<F>, Refusal>
     requires kept { Kept numbers.old }
     requires messages_fit { length messages.old ≡ numbers.old.message_room }
     requires journal_fits { length journal.old ≡ numbers.old.journal_room }
@@ -37,10 +38,7 @@ pub fn start_write<F: Copy>(
         result
         numbers.new (tables rs ds ks messages.new journal.new) }
 {
-    match write_refusal(numbers) {
-        Some(refusal) => return Reply::Declined(refusal),
-        None => {}
-    }
+    may_write(numbers)?;
     let operation = numbers.lines + 1;
     let stamp = numbers.writer.last + 1;
     let put = Message {
@@ -58,7 +56,7 @@ pub fn start_write<F: Copy>(
         operation,
         acknowledgers: 0,
     };
-    Reply::Started(operation)
+    Ok(Reply::Started(operation))
 }
 
 /// Starts a read.
@@ -70,7 +68,7 @@ pub fn start_read<F: Copy>(
     journal: &mut [Operation<F>],
     reader: u32,
     kind: ReadKind,
-) -> Reply<F>
+) -> Result<Reply<F>, Refusal>
     requires kept { Kept numbers.old }
     requires messages_fit { length messages.old ≡ numbers.old.message_room }
     requires journal_fits { length journal.old ≡ numbers.old.journal_room }
@@ -82,10 +80,7 @@ pub fn start_read<F: Copy>(
         result
         numbers.new (tables rs readers.new ks messages.new journal.new) }
 {
-    match read_refusal(start, numbers, readers, reader) {
-        Some(refusal) => return Reply::Declined(refusal),
-        None => {}
-    }
+    may_read(start, numbers, readers, reader)?;
     let operation = numbers.lines + 1;
     let row = readers[reader as usize];
     readers[reader as usize] = Reader {
@@ -112,37 +107,45 @@ pub fn start_read<F: Copy>(
         OperationKind::Read(kind),
         request,
     );
-    Reply::Started(operation)
+    Ok(Reply::Started(operation))
 }
 
-// Why a read is refused, if it is.
-fn read_refusal<F: Copy>(
+// Whether a read may start, or why it is refused.
+fn may_read<F: Copy>(
     start: F,
     numbers: &Numbers,
     readers: &[Reader<F>],
     reader: u32,
-) -> Option<Refusal>
+) -> Result<(), Refusal>
     requires { Kept numbers.now }
-    ensures verdict { result ≡ first_of (read_tests start numbers.now readers.now reader) }
-    ensures clear { IfNone result (ReadClear numbers.now readers.now reader) }
+    ensures verdict { result_err result ≡ first_of (read_tests start numbers.now readers.now reader) }
+    ensures clear { OnOk result (ReadClear numbers.now readers.now reader) }
 {
     if reader as usize >= readers.len() {
-        return Some(Refusal::NoSuchParty);
+        return Err(Refusal::NoSuchParty);
     }
     let row = readers[reader as usize];
     if row.halted {
-        return Some(Refusal::Halted);
+        return Err(Refusal::Halted);
     }
     if row.operation != 0 {
-        return Some(Refusal::Busy);
+        return Err(Refusal::Busy);
     }
+    has_room(numbers)
+}
+
+// Whether there is room for the line of an operation and for its first messages.
+fn has_room(numbers: &Numbers) -> Result<(), Refusal>
+    requires { Kept numbers.now }
+    ensures { result_err result ≡ first_of (room_tests numbers.now) }
+{
     if numbers.lines as usize >= numbers.journal_room {
-        return Some(Refusal::JournalFull);
+        return Err(Refusal::JournalFull);
     }
     if numbers.waiting + numbers.replicas as usize > numbers.message_room {
-        return Some(Refusal::NoRoom);
+        return Err(Refusal::NoRoom);
     }
-    None
+    Ok(())
 }
 
 // The phase in which a read starts.
@@ -150,8 +153,7 @@ fn opening_phase(kind: ReadKind) -> Phase
     ensures { result ≡ opening_phase kind }
 {
     match kind {
-        ReadKind::Quick => Phase::First,
-        ReadKind::Settled => Phase::First,
+        ReadKind::Quick | ReadKind::Settled => Phase::First,
         ReadKind::Relay => Phase::Relay,
     }
 }
@@ -161,30 +163,23 @@ fn opening_message(kind: ReadKind) -> MessageKind
     ensures { result ≡ opening_message kind }
 {
     match kind {
-        ReadKind::Quick => MessageKind::Query,
-        ReadKind::Settled => MessageKind::Query,
+        ReadKind::Quick | ReadKind::Settled => MessageKind::Query,
         ReadKind::Relay => MessageKind::Fan,
     }
 }
 
-// Why a write is refused, if it is.
-fn write_refusal(numbers: &Numbers) -> Option<Refusal>
+// Whether a write may start, or why it is refused.
+fn may_write(numbers: &Numbers) -> Result<(), Refusal>
     requires { Kept numbers.now }
-    ensures { result ≡ first_of (write_tests numbers.now) }
+    ensures { result_err result ≡ first_of (write_tests numbers.now) }
 {
     if numbers.writer.halted {
-        return Some(Refusal::Halted);
+        return Err(Refusal::Halted);
     }
     if numbers.writer.operation != 0 {
-        return Some(Refusal::Busy);
+        return Err(Refusal::Busy);
     }
-    if numbers.lines as usize >= numbers.journal_room {
-        return Some(Refusal::JournalFull);
-    }
-    if numbers.waiting + numbers.replicas as usize > numbers.message_room {
-        return Some(Refusal::NoRoom);
-    }
-    None
+    has_room(numbers)
 }
 
 // Adds the line of an operation, whose owner sends this message to every replica.

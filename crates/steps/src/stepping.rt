@@ -7,7 +7,7 @@ use crate::delivering::deliver_message;
 use crate::halting::halt_party;
 use crate::starting::{start_read, start_write};
 use crate::transit::{drop_message, duplicate_message};
-use model::{Call, Message, Operation, Reader, RelayMark, Replica, Reply};
+use model::{Call, Message, Operation, Reader, Refusal, RelayMark, Replica, Reply};
 use quorum::QuorumSystem;
 use tables::Numbers;
 
@@ -22,7 +22,7 @@ pub fn step<R: QuorumSystem, F: Copy>(
     messages: &mut [Message<F>],
     journal: &mut [Operation<F>],
     call: Call<F>,
-) -> Reply<F>
+) -> Result<Reply<F>, Refusal>
     requires kept { Kept numbers.old }
     requires fits { Fitting numbers.old (tables replicas.old readers.old marks.old messages.old journal.old) }
     requires sound { is_sound (rule_for R.QuorumSystem rule.now numbers.old.replicas) (view start numbers.old (tables replicas.old readers.old marks.old messages.old journal.old)) ≡ true }

@@ -17,7 +17,7 @@ pub fn drop_message<F: Copy>(
     numbers: &mut Numbers,
     messages: &mut [Message<F>],
     place: u32,
-) -> Reply<F>
+) -> Result<Reply<F>, Refusal>
     requires kept { Kept numbers.old }
     requires messages_fit { length messages.old ≡ numbers.old.message_room }
     ensures { (start : F) (rule : QuorumRule) (rs : List (ReplicaRow F)) (ds : List (ReaderRow F)) (ks : List MarkRow) (ls : List (JournalRow F))
@@ -30,11 +30,11 @@ pub fn drop_message<F: Copy>(
 {
     let at = place as usize;
     if at >= numbers.waiting {
-        return Reply::Declined(Refusal::NoMessage);
+        return Err(Refusal::NoMessage);
     }
     remove_at(messages, numbers.waiting, at);
     numbers.waiting -= 1;
-    Reply::Done
+    Ok(Reply::Done)
 }
 
 /// Adds a copy of the message at a place.
@@ -42,7 +42,7 @@ pub fn duplicate_message<F: Copy>(
     numbers: &mut Numbers,
     messages: &mut [Message<F>],
     place: u32,
-) -> Reply<F>
+) -> Result<Reply<F>, Refusal>
     requires kept { Kept numbers.old }
     requires messages_fit { length messages.old ≡ numbers.old.message_room }
     ensures { (start : F) (rule : QuorumRule) (rs : List (ReplicaRow F)) (ds : List (ReaderRow F)) (ks : List MarkRow) (ls : List (JournalRow F))
@@ -55,13 +55,13 @@ pub fn duplicate_message<F: Copy>(
 {
     let at = place as usize;
     if at >= numbers.waiting {
-        return Reply::Declined(Refusal::NoMessage);
+        return Err(Refusal::NoMessage);
     }
     if numbers.waiting >= numbers.message_room {
-        return Reply::Declined(Refusal::NoRoom);
+        return Err(Refusal::NoRoom);
     }
     let message = messages[at];
     append(messages, numbers.waiting, message);
     numbers.waiting += 1;
-    Reply::Done
+    Ok(Reply::Done)
 }

@@ -1,4 +1,4 @@
-use Rattle.std.proofs.Common.{◌≡◌, length, sym, ap, ◌∙◌, subst, arith}
+use Rattle.std.proofs.Common.{◌≡◌, length, sym, ap, ◌∙◌, subst, arith, Ok}
 use Rattle.tables.specs.declared.numbers.Numbers.{Numbers}
 use Rattle.tables.specs.View.{Kept, tables}
 use Rattle.steps.specs.Doing.{SameSizes}
@@ -48,7 +48,7 @@ returns g c = λ start.
     rw (c.change.ensures, c.change-2.ensures, c.change-3.ensures)
     (applies start n t c.requires.kept c.requires.messages_fit c.requires.journal_fits r c.requires.applicable.writer
     c.changed_writer-numbers.result c.changed_writer-numbers.ensures
-    c.finish_operation-reply.result c.finish_operation-reply.new.numbers
+    (Ok c.finish_operation-reply.result) c.finish_operation-reply.new.numbers
     (tables rs ds ks c.args.messages.now c.finish_operation-reply.new.journal) ended
     c.finish_operation-reply.new.numbers.replicas ended.sizes.replicas c.post.new.numbers _
     (c.post.ensures start rs ds ks))
