@@ -18,6 +18,7 @@ pub fn hear<F: Copy>(reader: &mut Reader<F>, message: &Message<F>, sender: u32) 
     if reader.operation != message.operation || has(reader.replies, sender) {
         return false;
     }
+    // Phase and kind are matched together, in one match that changes the reader in place.
     match (reader.phase, message.kind) {
         (Phase::First, MessageKind::Have) if message.stamp > reader.best_stamp => {
             reader.best_stamp = message.stamp;
@@ -27,13 +28,13 @@ pub fn hear<F: Copy>(reader: &mut Reader<F>, message: &Message<F>, sender: u32) 
         (Phase::First, MessageKind::Have) if message.stamp == reader.best_stamp => {
             reader.holders = joined(reader.holders, sender);
         }
-        (Phase::First, MessageKind::Have) => {}
-        (Phase::Second, MessageKind::BackAck) => {}
         (Phase::Relay, MessageKind::Reply) if lowers(reader, message) => {
             reader.best_stamp = message.stamp;
             reader.best_figure = message.figure;
         }
-        (Phase::Relay, MessageKind::Reply) => {}
+        (Phase::First, MessageKind::Have)
+        | (Phase::Second, MessageKind::BackAck)
+        | (Phase::Relay, MessageKind::Reply) => {}
         _ => return false,
     }
     reader.replies = joined(reader.replies, sender);
@@ -51,21 +52,22 @@ fn lowers<F: Copy>(reader: &Reader<F>, message: &Message<F>) -> bool
 pub fn next_move<R: QuorumSystem, F: Copy>(rule: &R, kind: ReadKind, reader: &Reader<F>) -> Move
     ensures { result ≡ next_move (R.QuorumSystem.round rule.now) (R.QuorumSystem.hold rule.now) kind reader.now }
 {
-    match (kind, reader.phase) {
-        (ReadKind::Quick, Phase::First)
-            if rule.is_round(reader.replies) && rule.is_hold(reader.holders) => Move::Finish(2),
-        (_, Phase::First) if rule.is_round(reader.replies) => Move::PlaceBest,
-        (_, Phase::Second) if rule.is_round(reader.replies) => Move::Finish(4),
-        (_, Phase::Relay) if rule.is_round(reader.replies) => Move::Finish(3),
-        _ => Move::Wait,
+    if !rule.is_round(reader.replies) {
+        return Move::Wait;
+    }
+    match reader.phase {
+        Phase::Idle => Move::Wait,
+        Phase::First if kind == ReadKind::Quick && rule.is_hold(reader.holders) => Move::Finish(2),
+        Phase::First => Move::PlaceBest,
+        Phase::Second => Move::Finish(4),
+        Phase::Relay => Move::Finish(3),
     }
 }
 
 /// The reader at this place does it.
-fn moved<F: Copy>(place: u32, reader: Reader<F>, next: Move) -> Reaction<F>
+fn moved<F: Copy>(place: u32, mut reader: Reader<F>, next: Move) -> Reaction<F>
     ensures { result ≡ moved_to place reader next }
 {
-    let mut reader = reader;
     match next {
         Move::Wait => Reaction::at_reader(place, reader, None, Post::Nothing),
         Move::PlaceBest => {
@@ -98,14 +100,13 @@ fn moved<F: Copy>(place: u32, reader: Reader<F>, next: Move) -> Reaction<F>
 pub fn to_reader<R: QuorumSystem, F: Copy>(
     rule: &R,
     place: u32,
-    reader: Reader<F>,
+    mut reader: Reader<F>,
     kind: OperationKind,
     message: &Message<F>,
 ) -> Reaction<F>
     requires { index_of message.now.sender < 32 }
     ensures { result ≡ to_reader (R.QuorumSystem.round rule.now) (R.QuorumSystem.hold rule.now) place reader kind message.now }
 {
-    let mut reader = reader;
     if reader.halted || !hear(&mut reader, message, index(message.sender)) {
         return Reaction::nothing();
     }

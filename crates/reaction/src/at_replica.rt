@@ -14,7 +14,7 @@ pub fn offered<F: Copy>(replica: Replica<F>, message: &Message<F>) -> Replica<F>
         Replica {
             stamp: message.stamp,
             figure: message.figure,
-            halted: replica.halted,
+            ..replica
         }
     } else {
         replica
@@ -24,6 +24,7 @@ pub fn offered<F: Copy>(replica: Replica<F>, message: &Message<F>) -> Replica<F>
 /// Notes in the mark that replica `sender` relayed for the operation; false where the mark serves a later one.
 ///
 /// A higher operation restarts the mark.
+// The mark changes in place; the answer is whether it did.
 pub fn relayed(mark: &mut RelayMark, operation: u16, sender: u32) -> bool
     requires { sender < 32 }
     ensures counted { result ≡ not (outdated mark.old operation) }
@@ -33,9 +34,11 @@ pub fn relayed(mark: &mut RelayMark, operation: u16, sender: u32) -> bool
         return false;
     }
     if operation > mark.operation {
-        mark.operation = operation;
-        mark.relayers = joined(0, sender);
-        mark.replied = false;
+        *mark = RelayMark {
+            operation,
+            relayers: joined(0, sender),
+            replied: false,
+        };
     } else {
         mark.relayers = joined(mark.relayers, sender);
     }
@@ -44,19 +47,19 @@ pub fn relayed(mark: &mut RelayMark, operation: u16, sender: u32) -> bool
 
 /// What replica c does about a relayed message that it has taken; `mark`, which stands at `place`, is the one that it keeps
 /// for the reader. Once a round set has relayed to it, it replies, once.
+// What a replica needs of one message comes from four tables: a struct of it would be taken apart again at once.
 pub fn to_mark<R: QuorumSystem, F: Copy>(
     rule: &R,
     c: u32,
     replica: Replica<F>,
     owner: Party,
     place: usize,
-    mark: RelayMark,
+    mut mark: RelayMark,
     message: &Message<F>,
 ) -> Reaction<F>
     requires { index_of message.now.sender < 32 }
     ensures { result ≡ to_mark (R.QuorumSystem.round rule.now) c replica owner message.now place mark }
 {
-    let mut mark = mark;
     if !relayed(&mut mark, message.operation, index(message.sender)) {
         return Reaction::at_replica(c, replica, None, Post::Nothing);
     }

@@ -8,6 +8,7 @@ use model::{Message, Operation, Writer};
 use quorum::{QuorumSystem, joined};
 
 /// Replica `sender` acknowledges the operation; true where that is the writer's current one.
+// The writer changes in place, as a reader does in `hear` and a mark in `relayed`; the answer is whether it did.
 pub fn acknowledge(writer: &mut Writer, operation: u16, sender: u32) -> bool
     requires { sender < 32 }
     ensures counted { result ≡ (writer.old.operation == operation) }
@@ -23,14 +24,13 @@ pub fn acknowledge(writer: &mut Writer, operation: u16, sender: u32) -> bool
 /// What a message does that reaches the writer, in the operation of this line. It is an acknowledgement: the writer is sent nothing else.
 pub fn to_writer<R: QuorumSystem, F: Copy>(
     rule: &R,
-    writer: Writer,
+    mut writer: Writer,
     line: &Operation<F>,
     message: &Message<F>,
 ) -> Reaction<F>
     requires { index_of message.now.sender < 32 }
     ensures { result ≡ to_writer (R.QuorumSystem.round rule.now) writer line.now message.now }
 {
-    let mut writer = writer;
     if writer.halted || !acknowledge(&mut writer, message.operation, index(message.sender)) {
         return Reaction::nothing();
     }

@@ -5,6 +5,8 @@ ghost use Rattle.reaction.specs.Reactions.{at_reader as reader_reaction, at_writ
 
 use model::{Message, MessageKind, Party, Reader, RelayMark, Replica, Writer};
 
+// A stamp and its figure stand side by side, as in the records of the tables, from and to which they are copied.
+
 /// What a step sends.
 #[derive(Clone, Copy)]
 pub enum Post<F> {
@@ -56,7 +58,14 @@ impl<F: Copy> Reaction<F> {
     pub fn nothing() -> Self
         ensures { result ≡ no_reaction }
     {
-        Reaction::posting(Post::Nothing)
+        Reaction {
+            replica: None,
+            mark: None,
+            reader: None,
+            writer: None,
+            finish: None,
+            post: Post::Nothing,
+        }
     }
 
     /// Nothing changes, and this is sent.
@@ -64,12 +73,8 @@ impl<F: Copy> Reaction<F> {
         ensures { result ≡ only_post post }
     {
         Reaction {
-            replica: None,
-            mark: None,
-            reader: None,
-            writer: None,
-            finish: None,
             post,
+            ..Reaction::nothing()
         }
     }
 
@@ -85,10 +90,8 @@ impl<F: Copy> Reaction<F> {
         Reaction {
             replica: Some((c as usize, replica)),
             mark,
-            reader: None,
-            writer: None,
-            finish: None,
             post,
+            ..Reaction::nothing()
         }
     }
 
@@ -102,12 +105,10 @@ impl<F: Copy> Reaction<F> {
         ensures { result ≡ reader_reaction place reader finish post }
     {
         Reaction {
-            replica: None,
-            mark: None,
             reader: Some((place as usize, reader)),
-            writer: None,
             finish,
             post,
+            ..Reaction::nothing()
         }
     }
 
@@ -116,12 +117,9 @@ impl<F: Copy> Reaction<F> {
         ensures { result ≡ writer_reaction writer finish }
     {
         Reaction {
-            replica: None,
-            mark: None,
-            reader: None,
             writer: Some(writer),
             finish,
-            post: Post::Nothing,
+            ..Reaction::nothing()
         }
     }
 }
@@ -159,12 +157,12 @@ pub fn bare_answer<F: Copy>(
 }
 
 /// The number of a party among its kind; the writer's is 0.
+// A function, since the enum is another crate's, and a trait for one method would be longer.
 pub fn index(party: Party) -> u32
     ensures { result ≡ index_of party }
 {
     match party {
         Party::Writer => 0,
-        Party::Reader(r) => r,
-        Party::Replica(c) => c,
+        Party::Reader(number) | Party::Replica(number) => number,
     }
 }

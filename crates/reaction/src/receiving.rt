@@ -20,6 +20,7 @@ fn line_of<F: Copy>(journal: &[Operation<F>], operation: u16) -> Operation<F>
 }
 
 /// What a message does that is delivered. Nothing is altered: the tables are only read.
+// The tables are lent slices, handed to each call one by one.
 pub fn react<R: QuorumSystem, F: Copy>(
     rule: &R,
     start: F,

@@ -1,3 +1,3 @@
 pub mod SoundRecords
-pub mod Passing
+pub mod Listed
 pub mod WholeTables

@@ -1,5 +1,6 @@
 -- One record of the tables: what its test comes to, by what its parts answered.
-use Rattle.std.proofs.Common.{◌≡◌, ℕ, Bool, true, false, not, ◌&&◌, ◌||◌, eqb, ◌⊎◌, sym, ap, ◌∙◌, ap₂, inl, inr}
+use Rattle.std.proofs.Common.{◌≡◌, ℕ, Bool, true, false, not, ◌&&◌, ◌||◌, eqb, Some, None, Option, ◌⊎◌, sym, ap, ◌∙◌, ap₂, inl, inr}
+use Rattle.std.specs.Option.{MatchOption}
 use mathlib.Core.Bool.{and_assoc}
 use Rattle.quorum.specs.Sets.{Rule}
 use Rattle.std.proofs.lemmas.Bool.{and_left}
@@ -11,15 +12,15 @@ use Rattle.model.specs.State.{State, line}
 use Rattle.model.specs.Sound.{suits, in_journal, recorded, idle, own_read, placed}
 use Rattle.tables.specs.Judged.{message_sound}
 
--- The line of an operation passes a test
-
-module _ {F : Type 0} (s : State F) (n : ℕ) (test : Operation F → Bool) where
-  pub line_found : (o : Operation F) (r : Bool) → (in_journal s n ≡ true) × (o ≡ line s n) → r ≡ test o
-      → r ≡ (in_journal s n && test (line s n))
-  line_found o r (i, l) e = e ∙ ap₂ (λ a o. a && test o) (sym i) l
-
-  pub line_missed : in_journal s n ≡ false → false ≡ (in_journal s n && test (line s n))
-  line_missed i = sym (and_left (in_journal s n) (test (line s n)) i)
+-- Whether the line of an operation passes a test, by what its look-up gave and what the test answered
+pub line_tested : {F A : Type 0} (s : State F) (n : ℕ) (test : Operation F → Bool) (shows : A → Operation F)
+    (Passed : A → Type 0) (o : Option A) (r : Bool)
+    → MatchOption o (in_journal s n ≡ false) (λ a. (in_journal s n ≡ true) × (shows a ≡ line s n))
+    → MatchOption o (r ≡ false) Passed
+    → ((a : A) → Passed a → r ≡ test (shows a))
+    → r ≡ (in_journal s n && test (line s n))
+line_tested s n test shows Passed None r i e t = e ∙ sym (and_left (in_journal s n) (test (line s n)) i)
+line_tested s n test shows Passed (Some a) r l e t = t a e ∙ ap₂ (λ i o. i && test o) (sym l.0) l.1
 
 -- A message, by its parties and by its line
 pub message_judged : {F : Type 0} (rule : Rule) (s : State F) (m : Message F) (parties line_passes : Bool)

@@ -4,10 +4,9 @@ ghost use Rattle.model.specs.declared.reader.Reader.{Reader as ReaderOf};
 ghost use Rattle.model.specs.declared.journal.Operation.{Operation as Line};
 ghost use Rattle.model.specs.State.{line as line_of};
 ghost use Rattle.model.specs.Sound.{in_journal, serves as is_served, owned as is_owned, recorded as is_booked};
-ghost use Rattle.model.specs.Sound.{is_write, is_relay_read, is_round_read};
 ghost use Rattle.tables.specs.Judged.{judged};
 
-use super::parties::{is_reader, is_writer};
+use super::parties::is_reader;
 use model::{MessageKind, Operation, OperationKind, Party, ReadKind, Reader};
 
 /// The line of an operation, if the journal has it. Operations are numbered from 1.
@@ -20,49 +19,21 @@ pub fn line_of<F: Copy>(lines: &[Operation<F>], operation: u16) -> Option<&Opera
     lines.get((operation as usize).checked_sub(1)?)
 }
 
-/// Whether the operation is a write.
-fn is_write(kind: OperationKind) -> bool
-    ensures { result ≡ is_write kind }
-{
-    match kind {
-        OperationKind::Write => true,
-        OperationKind::Read(_) => false,
-    }
-}
-
-/// Whether the operation is a relay read.
-fn is_relay_read(kind: OperationKind) -> bool
-    ensures { result ≡ is_relay_read kind }
-{
-    match kind {
-        OperationKind::Write => false,
-        OperationKind::Read(ReadKind::Quick) => false,
-        OperationKind::Read(ReadKind::Settled) => false,
-        OperationKind::Read(ReadKind::Relay) => true,
-    }
-}
-
-/// Whether the operation is a quick or a settled read.
-fn is_round_read(kind: OperationKind) -> bool
-    ensures { result ≡ is_round_read kind }
-{
-    match kind {
-        OperationKind::Write => false,
-        OperationKind::Read(ReadKind::Quick) => true,
-        OperationKind::Read(ReadKind::Settled) => true,
-        OperationKind::Read(ReadKind::Relay) => false,
-    }
-}
-
 /// Whether a message of this kind serves an operation of that kind.
 pub fn serves(kind: MessageKind, operation: OperationKind) -> bool
     ensures { result ≡ is_served kind operation }
 {
     match kind {
-        MessageKind::Put | MessageKind::PutAck => is_write(operation),
-        MessageKind::Query | MessageKind::Have => is_round_read(operation),
-        MessageKind::Back | MessageKind::BackAck => is_round_read(operation),
-        MessageKind::Fan | MessageKind::Relay | MessageKind::Reply => is_relay_read(operation),
+        MessageKind::Put | MessageKind::PutAck => operation == OperationKind::Write,
+        MessageKind::Query | MessageKind::Have | MessageKind::Back | MessageKind::BackAck => {
+            matches!(
+                operation,
+                OperationKind::Read(ReadKind::Quick | ReadKind::Settled)
+            )
+        }
+        MessageKind::Fan | MessageKind::Relay | MessageKind::Reply => {
+            operation == OperationKind::Read(ReadKind::Relay)
+        }
     }
 }
 
@@ -72,7 +43,7 @@ pub fn owned<F: Copy>(readers: &[Reader<F>], kind: OperationKind, owner: Party) 
         result ≡ is_owned (judged start readers.now lines) kind owner }
 {
     match kind {
-        OperationKind::Write => is_writer(owner),
+        OperationKind::Write => owner == Party::Writer,
         OperationKind::Read(_) => is_reader(readers, owner),
     }
 }

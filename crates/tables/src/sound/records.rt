@@ -3,21 +3,20 @@ ghost use Rattle.std.specs.Prelude.{◌≡◌, ◌≤◌, ◌&&◌, List};
 ghost use Rattle.model.specs.declared.reader.Reader.{Reader as ReaderOf};
 ghost use Rattle.model.specs.State.{line as line_of};
 ghost use Rattle.model.specs.Sound.{in_journal, recorded as is_booked, own_read as is_own_read, placed as is_placed};
-ghost use Rattle.tables.specs.Judged.{of_size, judged, reader_sound, message_sound};
+ghost use Rattle.tables.specs.Judged.{of_size, judged, message_sound};
 
 use super::lines::{line_of, recorded};
 use super::parties::suits;
-use super::sets::reader_within;
 use model::{Message, MessageKind, Operation, OperationKind, Party, Phase, Reader};
 
 /// Whether the line is a read whose owner is the reader of this number.
 fn own_read<F: Copy>(number: usize, line: &Operation<F>) -> bool
     ensures { result ≡ is_own_read number line.now }
 {
-    match (line.kind, line.owner) {
-        (OperationKind::Read(_), Party::Reader(owner)) => owner as usize == number,
-        _ => false,
-    }
+    matches!(
+        (line.kind, line.owner),
+        (OperationKind::Read(_), Party::Reader(owner)) if owner as usize == number
+    )
 }
 
 /// Whether the operation is in the journal, and a read of the reader of this number.
@@ -26,14 +25,11 @@ fn reads<F: Copy>(lines: &[Operation<F>], number: usize, operation: u16) -> bool
         result ≡ (in_journal (judged start readers lines.now) operation
         && is_own_read number (line_of (judged start readers lines.now) operation)) }
 {
-    match line_of(lines, operation) {
-        Some(line) => own_read(number, line),
-        None => false,
-    }
+    line_of(lines, operation).is_some_and(|line| own_read(number, line))
 }
 
 /// Whether the reader of this number is idle with operation 0, or has a read of its own under way.
-fn placed<F: Copy>(lines: &[Operation<F>], number: usize, reader: &Reader<F>) -> bool
+pub fn placed<F: Copy>(lines: &[Operation<F>], number: usize, reader: &Reader<F>) -> bool
     ensures { (start : F) (readers : List (ReaderOf F)) →
         result ≡ is_placed (judged start readers lines.now) number reader.now }
 {
@@ -41,20 +37,6 @@ fn placed<F: Copy>(lines: &[Operation<F>], number: usize, reader: &Reader<F>) ->
         Phase::Idle => reader.operation == 0,
         Phase::First | Phase::Second | Phase::Relay => reads(lines, number, reader.operation),
     }
-}
-
-/// Whether the reader of this number has sets of replicas only, and is idle or has a read of its own under way.
-pub fn reader_sound<F: Copy>(
-    size: u32,
-    lines: &[Operation<F>],
-    number: usize,
-    reader: &Reader<F>,
-) -> bool
-    requires { size ≤ 24 }
-    ensures { (start : F) (readers : List (ReaderOf F)) →
-        result ≡ reader_sound (of_size size) (judged start readers lines.now) number reader.now }
-{
-    reader_within(size, reader) && placed(lines, number, reader)
 }
 
 /// Whether the operation is in the journal, and its line can have a waiting message of this kind.
@@ -69,10 +51,7 @@ fn line_recorded<F: Copy>(
         && is_booked (judged start readers.now lines.now) kind
         (line_of (judged start readers.now lines.now) operation)) }
 {
-    match line_of(lines, operation) {
-        Some(line) => recorded(readers, kind, line),
-        None => false,
-    }
+    line_of(lines, operation).is_some_and(|line| recorded(readers, kind, line))
 }
 
 /// Whether the message is addressed, and its line is of an operation that it can serve.

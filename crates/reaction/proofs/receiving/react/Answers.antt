@@ -2,16 +2,8 @@ use Rattle.std.proofs.Common.{◌+◌, ◌*◌, ◌<◌, length, sym, refl, subs
 use Rattle.std.proofs.lemmas.List.{get_or_read}
 use Rattle.model.specs.State.{index, no_line, new_reader, new_replica}
 use Rattle.reaction.proofs.Deliverables.{sender_small, replica_there, reader_there, line_there, mark_there, few_marks}
-use Rattle.reaction.proofs.Deliverables.{within_front, for_writer, for_reader, for_replica}
+use Rattle.reaction.proofs.Deliverables.{for_writer, for_reader, for_replica}
 use Rattle.reaction.proofs.receiving.react.Goals as goal
-
-pub line_of-line-requires : goal.line_of-line-requires
-line_of-line-requires g c =
-    let h = line_there c.requires refl in
-    (h.0, (within_front _ c.args.numbers.now.lines c.args.journal.now h.1).1)
-
-pub to_writer-requires : goal.to_writer-requires
-to_writer-requires g c = sender_small c.requires refl
 
 pub to_reader-requires : goal.to_reader-requires
 to_reader-requires g c = sender_small c.requires refl

@@ -1,0 +1,14 @@
+use Rattle.std.proofs.Common.{rules, sym, ◌∙◌}
+use Rattle.std.proofs.lemmas.Iterator.{YieldsList-from_slice}
+use Rattle.std.proofs.lemmas.Iterator.Search.{all_from_yields_List}
+use borrow.Author.Tests.{tests}
+use Rattle.model.specs.Sound.{reader_within}
+use Rattle.tables.specs.Judged.{of_size}
+use Rattle.tables.proofs.Listed.{each_listed}
+use Rattle.tables.proofs.sound.sets.readers_within.Goals as goal
+
+pub returns : goal.returns
+returns g c =
+    all_from_yields_List (reader_within (of_size c.args.size)) _ _ _ c.all.ensures.ran
+    (YieldsList-from_slice c.args.readers.now cc) (λ x b q k. search (rules, tests))
+    ∙ sym (each_listed (reader_within (of_size c.args.size)) c.args.readers.now)
