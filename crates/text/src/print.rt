@@ -2,6 +2,8 @@ ghost use Rattle.std.specs.Prelude.{◌≡◌, ◌+◌, ◌<◌, ◌≤◌, leng
 ghost use Rattle.std.specs.Fmt.{signed_decimal};
 ghost use Rattle.text.specs.Printing.{Printed, put};
 
+// A lent buffer and a place in it, and no `String`: a printer uses no heap.
+
 /// Writes bytes at a place, and gives the place after them.
 ///
 /// There has to be room for them: a printer of a whole line tests its buffer once, and then each part is known to fit.

@@ -1,12 +1,12 @@
-use Rattle.std.proofs.Common.{◌^◌, ◌≤◌, Some, None, sym, ◌∙◌, arith, rules}
+use Rattle.std.proofs.Common.{◌^◌, ◌≤◌, length, Some, None, sym, ◌∙◌, arith, rules}
 use native.Mathlib.Nat.{pow-le-pow_right}
 use Rattle.text.specs.Numbers.{spelled}
 use Rattle.text.proofs.Spelling.{spelled_more, spelled_end, spelled_is, grows}
 use Rattle.text.proofs.numbers.number.Goals as goal
 
-pub returns-then-field-eq0 : goal.returns-then-field-eq0
+pub returns-then-is_empty-clause-value : goal.returns-then-is_empty-clause-value
 unfolding spelled
-returns-then-field-eq0 c = record { value = search rules; small = tt }
+returns-then-is_empty-clause-value c = search rules
 
 pub returns-in_err-n : goal.returns-in_err-n
 returns-in_err-n c =
@@ -33,6 +33,7 @@ returns c =
     let xs = c.args.field.now in
     let n = c.loop-b.n in
     let i = c.loop-b.b-index in
+    let some : 1 ≤ length xs = search rules in
     let few : i ≤ 6 = omega arith in
     let most : 10 ^ i ≤ 10 ^ 6 = pow-le-pow_right (omega arith) few in
     record {
