@@ -4,14 +4,11 @@
 #![tactic(auto)]
 
 use anyhow::anyhow;
+use console::{read_script, report};
 use player::play;
-use std::fs::File;
-use std::io::{Read, Write};
+use std::env;
+use std::io::Write;
 use std::process::ExitCode;
-use std::{env, io};
-
-// No more bytes of a script are read than suffice to decline it for its length.
-const MOST_BYTES: u64 = 65537;
 
 const USAGE: &str = "usage: bench [FILE]
 Plays the script in FILE, or on standard input, and prints an answer to each of its lines.
@@ -19,42 +16,23 @@ docs/SCRIPT.md says what a script is and what is answered.
 ";
 
 fn main(rt: HostRuntime) -> ExitCode {
-    let Err(fault) = run(&rt) else {
-        return ExitCode::SUCCESS;
-    };
-    // Where standard error takes nothing, the status alone tells.
-    let _ = eprintln!(rt; "bench: {fault}");
-    ExitCode::FAILURE
+    report(&rt, run(&rt))
 }
 
 fn run(rt: &HostRuntime) -> anyhow::Result<()> {
     let mut words = env::args(rt)?;
     let _program = words.next();
-    let mut script = Vec::new(rt.alloc());
-    match words.next() {
-        Some(word) => {
-            if words.next().is_some() {
-                return Err(anyhow!("more than one argument; bench --help says what it takes"));
-            }
-            if word.as_str() == "--help" {
-                rt.stdout().write_all(USAGE.as_bytes())?;
-                return Ok(());
-            }
-            if let Err(e) = read_file(rt, word.as_str(), &mut script) {
-                return Err(anyhow!(format!(in rt.alloc(); "cannot read {word}: {e}")?));
-            }
-        }
-        None => {
-            rt.stdin().take(MOST_BYTES).read_to_end(&mut script)?;
-        }
+    let name = words.next();
+    if words.next().is_some() {
+        return Err(anyhow!("more than one argument; bench --help says what it takes"));
     }
+    let name = name.as_deref();
+    if name == Some("--help") {
+        rt.stdout().write_all(USAGE.as_bytes())?;
+        return Ok(());
+    }
+    let script = read_script(rt, name)?;
     let answers = play(rt.alloc(), script.as_slice())?;
     rt.stdout().write_all(answers.as_slice())?;
-    Ok(())
-}
-
-fn read_file(rt: &HostRuntime, path: &str, script: &mut Vec<u8>) -> io::Result<()> {
-    let file = File::open(rt, path)?;
-    file.take(MOST_BYTES).read_to_end(script)?;
     Ok(())
 }

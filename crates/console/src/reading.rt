@@ -1,0 +1,35 @@
+ghost use Rattle.std.specs.Prelude.{◌≡◌, take, IfOk, IfSome};
+
+use anyhow::anyhow;
+use std::alloc::Global;
+use std::fs::File;
+use std::io;
+use std::io::Read;
+
+// No more bytes of a script are read than suffice to decline it for its length.
+const MOST_BYTES: u64 = 65537;
+
+/// The script in the file of this name, or the one on standard input.
+pub fn read_script(rt: &HostRuntime, name: Option<&str>) -> anyhow::Result<Vec<u8>> {
+    let Some(name) = name else {
+        return Ok(read_at_most(rt.alloc(), rt.stdin(), MOST_BYTES)?);
+    };
+    match read_file(rt, name) {
+        Ok(script) => Ok(script),
+        Err(e) => Err(anyhow!(format!(in rt.alloc(); "cannot read {name}: {e}")?)),
+    }
+}
+
+fn read_file(rt: &HostRuntime, name: &str) -> io::Result<Vec<u8>> {
+    let file = File::open(rt, name)?;
+    read_at_most(rt.alloc(), file, MOST_BYTES)
+}
+
+/// What there is to read, or the first bytes of it, if there are more than so many.
+pub fn read_at_most<R: Read + Drop>(alloc: Global, from: R, most: u64) -> io::Result<Vec<u8>>
+    ensures { IfOk result (λ v. IfSome (R.remaining from) (λ bytes. v.items ≡ take most bytes)) }
+{
+    let mut read = Vec::new(alloc);
+    from.take(most).read_to_end(&mut read)?;
+    Ok(read)
+}
