@@ -42,7 +42,7 @@ fn play_script(heap: Global, script: &[u8]) -> Result<Vec<u8>, AllocError>
         return Ok(out);
     }
     let mut lines = LineCursor::over(script);
-    let Some(first) = lines.next_line() else {
+    let Some(first) = lines.next() else {
         return Ok(out);
     };
     match open_line(first) {
@@ -110,13 +110,10 @@ fn play_calls<R: QuorumSystem + Drop, F: FigureKind>(
         ++ answers F.FigureKind (cluster_rule R.QuorumSystem cluster) (cluster_state cluster) 2 (lines_ahead lines.entry)) }
 {
     let mut cluster = cluster;
-    let mut lines = lines;
-    let mut number: u32 = 2;
-    while let Some(line) = lines.next_line() {
+    for (number, line) in (2..).zip(lines) {
         let turned = play_line(cluster, line);
         push_answer(out, number, turned.answer)?;
         cluster = turned.cluster;
-        number += 1;
     }
     Ok(())
 }
