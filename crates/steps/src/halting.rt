@@ -38,7 +38,7 @@ pub fn halt_party<F: Copy>(
 }
 
 /// The record of a party, which can be stopped for good.
-trait Stops {
+trait Stops: Copy {
     ghost is_halted: { Self → Bool };
 
     ghost halted: { Self → Self };
@@ -46,8 +46,8 @@ trait Stops {
     fn is_halted(&self) -> bool
         ensures { result ≡ is_halted self.now };
 
-    fn halt(&mut self)
-        ensures { self.new ≡ halted self.old };
+    fn halted(self) -> Self
+        ensures { result ≡ halted self };
 }
 
 impl Stops for Writer {
@@ -59,8 +59,11 @@ impl Stops for Writer {
         self.halted
     }
 
-    fn halt(&mut self) {
-        self.halted = true;
+    fn halted(self) -> Self {
+        Writer {
+            halted: true,
+            ..self
+        }
     }
 }
 
@@ -73,8 +76,11 @@ impl<F: Copy> Stops for Reader<F> {
         self.halted
     }
 
-    fn halt(&mut self) {
-        self.halted = true;
+    fn halted(self) -> Self {
+        Reader {
+            halted: true,
+            ..self
+        }
     }
 }
 
@@ -87,8 +93,11 @@ impl<F: Copy> Stops for Replica<F> {
         self.halted
     }
 
-    fn halt(&mut self) {
-        self.halted = true;
+    fn halted(self) -> Self {
+        Replica {
+            halted: true,
+            ..self
+        }
     }
 }
 
@@ -101,7 +110,7 @@ fn stop<P: Stops>(party: &mut P) -> Result<(), Refusal>
     if party.is_halted() {
         return Err(Refusal::Halted);
     }
-    party.halt();
+    *party = party.halted();
     Ok(())
 }
 
@@ -111,6 +120,7 @@ fn stop_at<P: Stops>(table: &mut [P], place: u32) -> Result<(), Refusal>
     ensures ok { OnOk result ((d : P) → table.new ≡ slice_set table.old place (P.Stops.halted (slice_index_or table.old place d))) }
     ensures err { OnErr result (table.new ≡ table.old) }
 {
+    // An index: what is written through a place that `get_mut` lends stays unproved here.
     let at = place as usize;
     if at >= table.len() {
         return Err(Refusal::NoSuchParty);

@@ -14,19 +14,19 @@ returns g c = λ start rule ks ms ls size fm fj.
     let ds = c.args.readers.now in
     let all = halts start rule n (tables rs ds ks ms ls) c.requires fm fj in
     elim c.match-party.branch [
-      in-Writer w ↦
+      | in-Writer w ↦
           let r = w.stop-stopped in
           rw (w.in-Writer.is, w.numbers-is, w.replicas-is, w.readers-is, c.and.ensures, w.stopped-is)
           (all Party.Writer r.result _ _ r.ensures.verdict
           (on_ok r.result (λ e. (ap (λ v. with_writer n v) e, refl)) r.ensures.ok)
           (on_err r.result (λ e. (ap (λ v. with_writer n v) e, refl)) r.ensures.err))
-    | in-Reader w ↦
+      | in-Reader w ↦
           let r = w.stop_at-stopped in
           rw (w.in-Reader.is, w.numbers-is, w.replicas-is, w.readers-is, c.and.ensures, w.stopped-is)
           (all (Party.Reader w.in-Reader.reader) r.result _ _ (r.ensures.verdict (new_reader start))
           (on_ok r.result (λ e. (refl, ap (λ l. tables rs l ks ms ls) (e (new_reader start)))) r.ensures.ok)
           (on_err r.result (λ e. (refl, ap (λ l. tables rs l ks ms ls) e)) r.ensures.err))
-    | in-Replica w ↦
+      | in-Replica w ↦
           let r = w.stop_at-stopped-in-Replica in
           rw (w.in-Replica.is, w.numbers-is, w.replicas-is, w.readers-is, c.and.ensures, w.stopped-is)
           (all (Party.Replica w.in-Replica.replica) r.result _ _ (rw size (r.ensures.verdict (new_replica start)))
