@@ -1,5 +1,6 @@
 -- What a reaction comes to, and what it may be applied to.
 use Rattle.std.specs.Prelude.{◌≡◌, ℕ, ◌≤◌, List, [], ◌∷◌, Some, None, Option, slice_set}
+use Rattle.std.specs.Option.{unwrap_or}
 use Rattle.model.specs.declared.writer.Writer.{Writer}
 use Rattle.model.specs.declared.messages.Message.{Message}
 use Rattle.model.specs.declared.answers.Reply.{Reply}
@@ -17,8 +18,7 @@ changed l None = l
 changed l (Some p) = slice_set l p.0 p.1
 
 abbrev pub writer_changed : Writer → Option Writer → Writer
-writer_changed w None = w
-writer_changed w (Some v) = v
+writer_changed w v = unwrap_or v w
 
 abbrev pub with_records : {F : Type 0} → State F → Reaction F → State F
 with_records s r =

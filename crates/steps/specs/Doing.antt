@@ -1,5 +1,5 @@
 -- What a call on sound tables does to the register's numbers and to every place of the lent tables.
-use Rattle.std.specs.Prelude.{◌≡◌, ℕ, ◌+◌, List, [], ◌∷◌, length, nat_le, nat_lt, slice_index_or}
+use Rattle.std.specs.Prelude.{◌≡◌, ℕ, ◌+◌, Bool, List, [], ◌∷◌, length, nat_le, nat_lt, slice_index_or}
 use Rattle.quorum.specs.Sets.{Rule}
 use Rattle.model.specs.declared.calls.Call.{Call}
 use Rattle.model.specs.Answers.{Answer}
@@ -50,3 +50,10 @@ read_tests start n ds r =
     ∷ ((slice_index_or ds r (new_reader start)).halted, Refusal.Halted)
     ∷ (busy (slice_index_or ds r (new_reader start)).operation, Refusal.Busy)
     ∷ room_tests n
+
+-- The refusals of a halt: of a party that is halted already, and before that of a place past the end of its table.
+abbrev pub again_test : Bool → Tests
+again_test is_halted = (is_halted, Refusal.Halted) ∷ []
+
+abbrev pub stop_tests : ℕ → ℕ → Bool → Tests
+stop_tests long place is_halted = (nat_le long place, Refusal.NoSuchParty) ∷ again_test is_halted

@@ -23,6 +23,7 @@ pub fn change<A: Copy>(table: &mut [A], to: Option<(usize, A)>)
     ensures { table.new ≡ changed table.old to }
 {
     if let Some((at, row)) = to {
+        // An index: what is written through a place that `get_mut` lends stays unproved here.
         if at < table.len() {
             table[at] = row;
         }

@@ -5,12 +5,12 @@ ghost use Rattle.model.specs.declared.calls.Call.{Call as ModelCall};
 ghost use Rattle.tables.specs.View.{tables, view, Kept, Fitting};
 ghost use Rattle.steps.specs.Doing.{judged, Does};
 ghost use Rattle.steps.specs.Planning.{Plan};
-ghost use Rattle.reaction.specs.Applied.{writer_changed, sent_by, applied, Applicable};
+ghost use Rattle.reaction.specs.Applied.{sent_by, applied, Applicable};
 ghost use Rattle.tables.specs.View.{rule_for};
 
 use crate::applying::{change, finish_operation, post, post_count};
 use crate::tools::remove_at;
-use model::{Message, Operation, Reader, Refusal, RelayMark, Replica, Reply, Writer};
+use model::{Message, Operation, Reader, Refusal, RelayMark, Replica, Reply};
 use quorum::QuorumSystem;
 use reaction::{Reaction, react};
 use tables::Numbers;
@@ -108,15 +108,8 @@ pub fn apply<F: Copy>(
     change(replicas, reaction.replica);
     change(readers, reaction.reader);
     change(marks, reaction.mark);
-    numbers.writer = changed_writer(numbers.writer, reaction.writer);
+    numbers.writer = reaction.writer.unwrap_or(numbers.writer);
     let reply = finish_operation(numbers, journal, reaction.finish);
     post(numbers, messages, journal, reaction.post);
     reply
-}
-
-/// The writer after a reaction, which may change it.
-fn changed_writer(writer: Writer, to: Option<Writer>) -> Writer
-    ensures { result ≡ writer_changed writer to }
-{
-    to.unwrap_or(writer)
 }

@@ -1,10 +1,8 @@
 ghost use Rattle.std.specs.Prelude.{◌≡◌, ◌+◌, ◌<◌, ◌≤◌, true, [], length, Ok};
 ghost use Rattle.model.specs.Sound.{sound as is_sound};
-ghost use Rattle.model.specs.Steps.{outcome};
 ghost use Rattle.model.specs.declared.calls.Call.{Call as ModelCall};
 ghost use Rattle.tables.specs.View.{tables, view, Kept, Fitting, rule_for};
-ghost use Rattle.reaction.specs.Applied.{sent_by, applied, Applicable};
-ghost use Rattle.steps.specs.Doing.{judged, Does};
+ghost use Rattle.steps.specs.Doing.{judged};
 ghost use Rattle.steps.specs.Planning.{Plan};
 ghost use Rattle.steps.specs.Queueing.{window, Advances};
 
@@ -95,8 +93,9 @@ fn deliver_queued<R: QuorumSystem, F: Copy>(
         Ok(reaction) => {
             let head = take_out(buffer, head, room, numbers.waiting, place as usize);
             numbers.waiting -= 1;
-            let reply = apply_queued(
-                numbers, replicas, readers, marks, buffer, head, journal, reaction,
+            let messages = &mut buffer[head..head + room];
+            let reply = apply(
+                numbers, replicas, readers, marks, messages, journal, reaction,
             );
             Queued {
                 reply: Ok(reply),
@@ -106,7 +105,7 @@ fn deliver_queued<R: QuorumSystem, F: Copy>(
     }
 }
 
-// What the delivery will do, or why it is declined.
+// What the delivery will do, or why it is declined. A call of its own lends the part of the buffer that is read.
 fn plan_queued<R: QuorumSystem, F: Copy>(
     rule: &R,
     start: F,
@@ -129,34 +128,5 @@ fn plan_queued<R: QuorumSystem, F: Copy>(
     let messages = &buffer[head..head + numbers.message_room];
     plan_delivery(
         rule, start, numbers, replicas, readers, marks, messages, journal, place,
-    )
-}
-
-// Does what was planned, once the message is taken out.
-fn apply_queued<F: Copy>(
-    numbers: &mut Numbers,
-    replicas: &mut [Replica<F>],
-    readers: &mut [Reader<F>],
-    marks: &mut [RelayMark],
-    buffer: &mut [Message<F>],
-    head: usize,
-    journal: &mut [Operation<F>],
-    reaction: Reaction<F>,
-) -> Reply<F>
-    requires kept { Kept numbers.old }
-    requires within { head + numbers.old.message_room ≤ length buffer.old }
-    requires journal_fits { length journal.old ≡ numbers.old.journal_room }
-    requires room { numbers.old.waiting + length (sent_by numbers.old.replicas reaction.post) ≤ numbers.old.message_room }
-    requires applicable { Applicable numbers.old reaction }
-    ensures { (start : F) → Does start
-        (outcome [] (applied (view start numbers.old (tables replicas.old readers.old marks.old (window head numbers.old.message_room buffer.old) journal.old)) numbers.old.replicas reaction))
-        numbers.old (tables replicas.old readers.old marks.old (window head numbers.old.message_room buffer.old) journal.old)
-        (Ok result)
-        numbers.new (tables replicas.new readers.new marks.new (window head numbers.old.message_room buffer.new) journal.new) }
-{
-    let room = numbers.message_room;
-    let messages = &mut buffer[head..head + room];
-    apply(
-        numbers, replicas, readers, marks, messages, journal, reaction,
     )
 }

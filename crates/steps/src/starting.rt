@@ -51,10 +51,10 @@ pub fn start_write<F: Copy>(
     };
     open(numbers, messages, journal, OperationKind::Write, put);
     numbers.writer = Writer {
-        halted: numbers.writer.halted,
         last: stamp,
         operation,
         acknowledgers: 0,
+        ..numbers.writer
     };
     Ok(Reply::Started(operation))
 }
@@ -84,13 +84,13 @@ pub fn start_read<F: Copy>(
     let operation = numbers.lines + 1;
     let row = readers[reader as usize];
     readers[reader as usize] = Reader {
-        halted: row.halted,
         operation,
         phase: opening_phase(kind),
         replies: 0,
         best_stamp: 0,
         best_figure: start,
         holders: 0,
+        ..row
     };
     let request = Message {
         kind: opening_message(kind),

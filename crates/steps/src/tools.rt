@@ -27,6 +27,7 @@ pub fn send_all<F: Copy>(messages: &mut [Message<F>], used: usize, size: u32, me
     ensures { messages.new ≡ stored (take used messages.old
         ++ to_all size message.kind message.operation message.sender (carries message)) messages.old }
 {
+    // An index: nothing is known of what was written through an adapter of `iter_mut`.
     for c in 0..size {
         messages[used + c as usize] = addressed(message, Party::Replica(c));
     }

@@ -2,6 +2,7 @@ ghost use Rattle.std.specs.Prelude.{◌≡◌, ◌<◌, IfSome};
 ghost use Rattle.text.specs.Numbers.{digit_of, spelled, spelled_signed};
 
 /// The number that a field spells, if it spells one.
+#[tactic(auto, unfolding(crate::specs::Numbers::spelled))]
 pub fn number(field: &[u8]) -> Option<u32>
     ensures value { result ≡ spelled field.now }
     ensures small { IfSome result (λ n. n < 1000000) }

@@ -17,6 +17,7 @@ impl<const MAX: u32> UpTo<MAX> {
     }
 
     /// The number itself, if it is within the limit.
+    #[tactic(auto, using(crate::specs::Limited::beyond))]
     pub fn new(value: u32) -> Option<UpTo<MAX>>
         ensures { result ≡ up_to MAX value }
     {

@@ -11,7 +11,7 @@ use Rattle.steps.proofs.delivering.apply.Goals as goal
 pub finish_operation-reply-requires : goal.finish_operation-reply-requires
 finish_operation-reply-requires g c = record {
   kept =
-      rw c.changed_writer-numbers.ensures
+      rw c.unwrap_or-numbers.ensures
       (kept_writer c.args.numbers.now c.requires.kept c.args.reaction.writer c.requires.applicable.writer);
   journal_fits = c.requires.journal_fits;
   within = c.requires.applicable.finish;
@@ -25,7 +25,7 @@ post-requires g c =
     let m : Numbers = c.finish_operation-reply.new.numbers in
     let e : m ≡ numbers_ended n₁ r.finish
     = c.finish_operation-reply.ensures.numbers
-    ∙ ap (λ w. numbers_ended (with_writer n w) r.finish) c.changed_writer-numbers.ensures in
+    ∙ ap (λ w. numbers_ended (with_writer n w) r.finish) c.unwrap_or-numbers.ensures in
     let same : SameSizes n₁ m × (m.waiting ≡ n.waiting) × (m.lines ≡ n.lines)
     = subst (λ (x : Numbers). SameSizes n₁ x × (x.waiting ≡ n.waiting) × (x.lines ≡ n.lines)) (sym e) (ended_same n₁ r.finish) in
     record {
@@ -47,7 +47,7 @@ returns g c = λ start.
     let ended = c.finish_operation-reply.ensures.ends start rs ds ks c.args.messages.now c.requires.messages_fit in
     rw (c.change.ensures, c.change-2.ensures, c.change-3.ensures)
     (applies start n t c.requires.kept c.requires.messages_fit c.requires.journal_fits r c.requires.applicable.writer
-    c.changed_writer-numbers.result c.changed_writer-numbers.ensures
+    c.unwrap_or-numbers.result c.unwrap_or-numbers.ensures
     (Ok c.finish_operation-reply.result) c.finish_operation-reply.new.numbers
     (tables rs ds ks c.args.messages.now c.finish_operation-reply.new.journal) ended
     c.finish_operation-reply.new.numbers.replicas ended.sizes.replicas c.post.new.numbers _

@@ -1,22 +1,14 @@
 use Rattle.std.proofs.Common.{◌^◌, ◌≤◌, length, Some, None, sym, ◌∙◌, arith, rules}
 use native.Mathlib.Nat.{pow-le-pow_right}
-use Rattle.text.specs.Numbers.{spelled}
 use Rattle.text.proofs.Spelling.{spelled_more, spelled_end, spelled_is, grows}
 use Rattle.text.proofs.numbers.number.Goals as goal
 
-pub returns-then-is_empty-clause-value : goal.returns-then-is_empty-clause-value
-unfolding spelled
-returns-then-is_empty-clause-value c = search rules
-
-pub returns-in_err-n : goal.returns-in_err-n
-returns-in_err-n c =
+pub returns-in_err-n-clause-value : goal.returns-in_err-n-clause-value
+returns-in_err-n-clause-value c =
     let xs = c.args.field.now in
     let none = c.in_err-n.ensures.value in
     let here = spelled_more c.loop-b.n xs c.loop-b.b-index c.loop-b-test.true None none in
-    rw c.from_residual.ensures (record {
-      value = here ∙ c.loop-b.invariant.0 ∙ spelled_is xs (omega arith) (omega arith);
-      small = tt;
-    })
+    rw c.from_residual.ensures (here ∙ c.loop-b.invariant.0 ∙ spelled_is xs (omega arith) (omega arith))
 
 pub loop-b-preserved : goal.loop-b-preserved
 loop-b-preserved c =

@@ -13,7 +13,6 @@ tables_sound-requires g c =
     (tables c.args.replicas.now c.args.readers.now c.args.marks.now c.args.messages.now c.args.journal.now)
     (sym c.if-not-lengths_fit.ensures) in
     record {
-      replicas = kept.few_replicas;
       waiting = omega (arith, kept.room, fits.messages);
       lines = omega (arith, kept.lines_fit, fits.journal);
     }
