@@ -31,14 +31,14 @@ fn run(rt: &HostRuntime) -> anyhow::Result<()> {
         return print(rt, 0, Answer::Declined(too_long));
     }
     let mut lines = LineCursor::over(script.as_slice());
-    let Some(first) = lines.next_line() else {
+    let Some(first) = lines.next() else {
         return Ok(());
     };
     match open_line(first) {
         Ok(_) => print(rt, 1, Answer::Accepted(0))?,
         Err(fault) => return print(rt, 1, Answer::Declined(fault)),
     }
-    if lines.next_line().is_some() {
+    if lines.next().is_some() {
         eprintln!(rt; "bench: only the first line is played yet")?;
     }
     Ok(())

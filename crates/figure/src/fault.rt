@@ -2,7 +2,7 @@ ghost use Rattle.std.specs.Prelude.{◌≡◌};
 ghost use Rattle.figure.specs.Faults.{fault_number, fault_field};
 
 /// Why the fields of a figure are refused. Fields count from 0 at the figure's first.
-#[derive(Clone, Copy, PartialEq, Debug)]
+#[derive(Clone, Copy, PartialEq, Eq, Debug)]
 pub enum FigureFault {
     /// The field is none of the words that may stand there.
     UnknownWord { field: u8 },
@@ -26,8 +26,7 @@ impl FigureFault {
         ensures { result ≡ fault_field self }
     {
         match self {
-            FigureFault::UnknownWord { field } => field,
-            FigureFault::BadNumber { field } => field,
+            FigureFault::UnknownWord { field } | FigureFault::BadNumber { field } => field,
         }
     }
 }

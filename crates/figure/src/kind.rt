@@ -28,6 +28,7 @@ pub trait FigureKind: Copy {
     ghost shown: { Self → List ℕ };
 
     /// The word that names the kind.
+    // A function here and below, and no constant or `Default`: its contract says that it is the ghost member.
     fn word<'a>() -> &'a str
         ensures { result.now ≡ named };
 

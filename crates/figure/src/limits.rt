@@ -1,14 +1,14 @@
 ghost use Rattle.std.specs.Prelude.{◌≤◌, unsigned_abs};
 
 /// A whole number from 0 to `MAX`.
-#[derive(Clone, Copy, PartialEq, Debug)]
+#[derive(Clone, Copy, PartialEq, Eq, Debug)]
 pub struct UpTo<const MAX: u32> {
     value: u32,
     ghost ok: { value ≤ MAX },
 }
 
 /// A water level in mm, from 20,000 below the datum to 20,000 above it.
-#[derive(Clone, Copy, PartialEq, Debug)]
+#[derive(Clone, Copy, PartialEq, Eq, Debug)]
 pub struct Level {
     mm: i32,
     ghost ok: { unsigned_abs mm ≤ 20000 },

@@ -9,10 +9,10 @@ ghost use Rattle.figure.specs.OrderLaws.{order_short, order_counts_back, order_r
 use crate::fault::FigureFault;
 use crate::kind::FigureKind;
 use crate::limits::{Depth, Section};
-use text::{FieldCursor, is_word, put_bytes, put_number};
+use text::{FieldCursor, put_bytes, put_number};
 
 /// The arm that digs.
-#[derive(Clone, Copy, PartialEq, Debug)]
+#[derive(Clone, Copy, PartialEq, Eq, Debug)]
 pub enum Arm {
     Port,
     Starboard,
@@ -20,7 +20,7 @@ pub enum Arm {
 }
 
 /// What the dredger is to do.
-#[derive(Clone, Copy, PartialEq, Debug)]
+#[derive(Clone, Copy, PartialEq, Eq, Debug)]
 pub enum DigOrder {
     /// Hold the place.
     Hold,
@@ -57,12 +57,8 @@ impl DigOrder {
     fn join_dig(depth: Option<Depth>, arm: Option<Arm>) -> Result<DigOrder, FigureFault>
         ensures { result ≡ dig_from depth arm }
     {
-        let Some(depth) = depth else {
-            return Err(FigureFault::BadNumber { field: 1 });
-        };
-        let Some(arm) = arm else {
-            return Err(FigureFault::UnknownWord { field: 2 });
-        };
+        let depth = depth.ok_or(FigureFault::BadNumber { field: 1 })?;
+        let arm = arm.ok_or(FigureFault::UnknownWord { field: 2 })?;
         Ok(DigOrder::Dig { depth, arm })
     }
 
@@ -70,28 +66,23 @@ impl DigOrder {
     fn join_shift(section: Option<Section>) -> Result<DigOrder, FigureFault>
         ensures { result ≡ shift_from section }
     {
-        let Some(section) = section else {
-            return Err(FigureFault::BadNumber { field: 1 });
-        };
+        let section = section.ok_or(FigureFault::BadNumber { field: 1 })?;
         Ok(DigOrder::Shift { section })
     }
 }
 
 impl Arm {
     // The arm that a word names.
+    #[tactic(auto, unfolding(crate::specs::Orders::arm_of))]
     fn named(word: &[u8]) -> Option<Arm>
         ensures { result ≡ arm_of word.now }
     {
-        if is_word(word, "port") {
-            return Some(Arm::Port);
+        match word {
+            b"port" => Some(Arm::Port),
+            b"starboard" => Some(Arm::Starboard),
+            b"both" => Some(Arm::Both),
+            _ => None,
         }
-        if is_word(word, "starboard") {
-            return Some(Arm::Starboard);
-        }
-        if is_word(word, "both") {
-            return Some(Arm::Both);
-        }
-        None
     }
 
     // The word for the arm.
@@ -108,19 +99,16 @@ impl Arm {
 
 impl Verb {
     // The verb that a word names.
+    #[tactic(auto, unfolding(crate::specs::Orders::verb_of))]
     fn named(word: &[u8]) -> Result<Verb, FigureFault>
         ensures { result ≡ verb_of word.now }
     {
-        if is_word(word, "hold") {
-            return Ok(Verb::Hold);
+        match word {
+            b"hold" => Ok(Verb::Hold),
+            b"dig" => Ok(Verb::Dig),
+            b"shift" => Ok(Verb::Shift),
+            _ => Err(FigureFault::UnknownWord { field: 0 }),
         }
-        if is_word(word, "dig") {
-            return Ok(Verb::Dig);
-        }
-        if is_word(word, "shift") {
-            return Ok(Verb::Shift);
-        }
-        Err(FigureFault::UnknownWord { field: 0 })
     }
 
     // How many fields an order with this first word has.
@@ -164,13 +152,11 @@ impl FigureKind for DigOrder {
         if cursor.count() == 0 {
             return Ok(1);
         }
-        let verb = Verb::named(cursor.peek())?;
-        Ok(verb.field_count())
+        Ok(Verb::named(cursor.peek())?.field_count())
     }
 
     fn read(mut cursor: FieldCursor<'_>) -> Result<DigOrder, FigureFault> {
-        let verb = Verb::named(cursor.next_field())?;
-        match verb {
+        match Verb::named(cursor.next_field())? {
             Verb::Hold => Ok(DigOrder::Hold),
             Verb::Dig => {
                 let depth = Depth::read(cursor.next_field());

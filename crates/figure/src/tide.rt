@@ -10,7 +10,7 @@ use crate::limits::{Level, Minute};
 use text::{FieldCursor, put_bytes, put_number, put_signed};
 
 /// A water level and the minute of the day at which it was read.
-#[derive(Clone, Copy, PartialEq, Debug)]
+#[derive(Clone, Copy, PartialEq, Eq, Debug)]
 pub struct Tide {
     pub level: Level,
     pub minute: Minute,
@@ -28,12 +28,8 @@ impl Tide {
     fn join(level: Option<Level>, minute: Option<Minute>) -> Result<Tide, FigureFault>
         ensures { result ≡ tide_from level minute }
     {
-        let Some(level) = level else {
-            return Err(FigureFault::BadNumber { field: 0 });
-        };
-        let Some(minute) = minute else {
-            return Err(FigureFault::BadNumber { field: 1 });
-        };
+        let level = level.ok_or(FigureFault::BadNumber { field: 0 })?;
+        let minute = minute.ok_or(FigureFault::BadNumber { field: 1 })?;
         Ok(Tide { level, minute })
     }
 }

@@ -1,18 +1,18 @@
 -- The answers to call lines, one after the other.
-use Rattle.std.proofs.Common.{◌≡◌, ℕ, ◌+◌, false, ltb, List, [], ◌∷◌, ◌++◌, length, take, Ok, sym, ap, ◌∙◌, append_assoc, append-nil, arith}
+use Rattle.std.proofs.Common.{◌≡◌, ℕ, ◌+◌, false, ltb, List, [], ◌∷◌, ◌++◌, length, take, Ok, Result, sym, ap, ◌∙◌, append_assoc, append-nil, arith}
 use Rattle.std.proofs.lemmas.List.{take_at}
 use Rattle.std.proofs.lemmas.Bool.{le-ltb, cond-false}
 use Rattle.quorum.specs.Sets.{Rule}
 use Rattle.figure.specs.declared.kind.FigureKind.{Ghosts}
 use Rattle.model.specs.State.{State}
-use Rattle.script.specs.declared.answer.Answer.{Answer}
-use Rattle.script.specs.Answers.{line_shown, LinePrinted}
+use Rattle.script.specs.declared.fault.ScriptFault.{ScriptFault}
+use Rattle.script.specs.Answers.{LineAnswer, line_shown, LinePrinted}
 use Rattle.player.specs.Playing.{turn, answers}
 
 -- what was printed into a buffer of 80 bytes stands at its front
-pub line_taken : (before bytes after : List ℕ) (end : ℕ) → LinePrinted before bytes after (Ok end) → length before ≡ 80
-    → take end after ≡ bytes
-line_taken before bytes after end p long =
+pub line_taken : (before bytes after : List ℕ) (r : Result ℕ ScriptFault) (end : ℕ) → LinePrinted before bytes after r
+    → r ≡ Ok end → length before ≡ 80 → take end after ≡ bytes
+line_taken before bytes after r end p made long =
     let wide : ltb (length before) 80 ≡ false = le-ltb (length before) 80 (omega arith) in
     let a = p.answer ∙ cond-false (ltb (length before) 80) _ _ wide in
     let is : end ≡ length bytes = cc in
@@ -20,20 +20,18 @@ line_taken before bytes after end p long =
     ap (λ l. take end l) b ∙ take_at bytes _ end (sym is)
 
 module _ {F : Type 0} (kind : Ghosts F) where
-  -- one line more is answered
-  pub answered_more : (rule rule' : Rule) (s s' : State F) (n : ℕ) (l : List ℕ) (ls ms : List (List ℕ)) (out new all : List ℕ)
-      (a : Answer F) → out ++ answers kind rule s n ls ≡ all → ls ≡ l ∷ ms → rule' ≡ rule → s' ≡ (turn kind rule s l).next
-      → a ≡ (turn kind rule s l).answer → new ≡ out ++ line_shown kind.shown n a
-      → new ++ answers kind rule' s' (n + 1) ms ≡ all
+  -- one line more is answered, that of number m
+  pub answered_more : (rule rule' : Rule) (s s' : State F) (n m n' : ℕ) (l : List ℕ) (ls ms : List (List ℕ))
+      (out new all : List ℕ) (a : LineAnswer F) → out ++ answers kind rule s n ls ≡ all → m ≡ n → n' ≡ m + 1 → ls ≡ l ∷ ms
+      → rule' ≡ rule → s' ≡ (turn kind rule s l).next → a ≡ (turn kind rule s l).answer
+      → new ≡ out ++ line_shown kind.shown m a → new ++ answers kind rule' s' n' ms ≡ all
   unfolding answers
-  answered_more rule rule' s s' n l ls ms out new all a inv e same next is NewIs =
+  answered_more rule rule' s s' n m n' l ls ms out new all a inv at then e same next is NewIs =
       let line = line_shown kind.shown n (turn kind rule s l).answer in
-      ap (λ x. x ++ answers kind rule' s' (n + 1) ms) (NewIs ∙ ap (λ x. out ++ line_shown kind.shown n x) is)
-      ∙ ap (λ x. (out ++ line) ++ answers kind x s' (n + 1) ms) same
-      ∙ ap (λ x. (out ++ line) ++ answers kind rule x (n + 1) ms) next
-      ∙ append_assoc out line (answers kind rule (turn kind rule s l).next (n + 1) ms)
+      rw (NewIs, is, then, at, same, next)
+      (append_assoc out line (answers kind rule (turn kind rule s l).next (n + 1) ms)
       ∙ ap (λ x. out ++ answers kind rule s n x) (sym e)
-      ∙ inv
+      ∙ inv)
 
   pub answered_none : (rule : Rule) (s : State F) (n : ℕ) (ls : List (List ℕ)) (out all : List ℕ)
       → out ++ answers kind rule s n ls ≡ all → ls ≡ [] → out ≡ all

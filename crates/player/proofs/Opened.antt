@@ -9,7 +9,7 @@ use Rattle.quorum.specs.declared.refusal.RuleRefusal.{RuleRefusal}
 use Rattle.quorum.proofs.CountLaws.{count_lawful}
 use Rattle.quorum.proofs.GridLaws.{grid_lawful}
 use Rattle.quorum.proofs.LeadLaws.{lead_lawful}
-use Rattle.quorum.proofs.GroupLaws.{groups_lawful}
+use Rattle.quorum.proofs.GroupLaws.{grouped_lawful}
 use Rattle.quorum.proofs.Products.{limits}
 use Rattle.script.specs.declared.fault.ScriptFault.{ScriptFault}
 use Rattle.script.specs.declared.fault.TextFault.{TextFault}
@@ -71,7 +71,7 @@ laws_said (RuleText.Groups g f n i) e =
     let outer = unless_tells (count_refusal g f) _ e in
     let inner = unless_tells (count_refusal n i) _ outer.1 in
     let fits = (limited_tells (product_fits g n) None (unless_tells _ _ inner.1).0).0 in
-    groups_lawful g n (count_rule g f) (count_rule n i) refl refl (limits g n fits).2 (count_laws g f outer.0) (count_laws n i inner.0)
+    grouped_lawful (count_rule g f) (count_rule n i) (count_laws g f outer.0) (count_laws n i inner.0) (limits g n fits).2
 
 pub laws : (h : Header) → opening h ≡ Ok tt → Lawful (rule_said h.rule)
 laws h e = laws_said h.rule (rule_made h (rule_answer h.rule) e)

@@ -11,7 +11,6 @@ use Rattle.model.specs.Steps.{step}
 use Rattle.model.specs.History.{run, replies, begun}
 use Rattle.model.proofs.Runs.{runs_grow}
 use Rattle.model.proofs.Serving.{serves}
-use Rattle.script.specs.declared.answer.Answer.{Answer}
 use Rattle.script.specs.declared.fault.ScriptFault.{ScriptFault}
 use Rattle.script.specs.declared.fault.TextFault.{TextFault}
 use Rattle.script.specs.declared.header.Header.{Header}
@@ -37,7 +36,7 @@ module _ {F : Type 0} (kind : Ghosts F) (rule : Rule) where
           → line_shown kind.shown n (turned rule s r).answer ++ answers kind rule (turned rule s r).next (n + 1) ls
           ≡ told_line kind (told kind ls) n r (replies (run rule s (call_or r (calls_in kind ls))).history)
       by rest (Ok c) = ap (λ x. line_shown kind.shown n (answer_of (step rule s c).reply) ++ x) (rest (step rule s c).next)
-      by rest (Err e) = ap (λ x. line_shown kind.shown n (Answer.Declined (ScriptFault.Text e)) ++ x) (rest s)
+      by rest (Err e) = ap (λ x. line_shown kind.shown n (Err (ScriptFault.Text e)) ++ x) (rest s)
 
 served_calls : {F : Type 0} (kind : Ghosts F) (h : Header) (ls : List (List ℕ)) → opening h ≡ Ok tt → ServedCalls kind h ls
 served_calls {F} kind h ls e = record {

@@ -5,15 +5,16 @@ use Rattle.figure.specs.contracts.order.DigOrderFigureKind.TheImpl.{ghosts as or
 use Rattle.figure.specs.contracts.tide.TideFigureKind.TheImpl.{ghosts as tide_kind}
 use Rattle.figure.specs.declared.kind.FigureKind.{Ghosts}
 use Rattle.text.specs.Lines.{lines}
+use Rattle.quorum.specs.declared.refusal.RuleRefusal.{RuleRefusal}
 use Rattle.model.specs.declared.calls.Call.{Call}
+use Rattle.model.specs.declared.answers.Reply.{Reply}
 use Rattle.model.specs.State.{State, fresh}
 use Rattle.model.specs.Steps.{step}
-use Rattle.script.specs.declared.answer.Answer.{Answer}
 use Rattle.script.specs.declared.fault.ScriptFault.{ScriptFault}
 use Rattle.script.specs.declared.fault.TextFault.{TextFault}
 use Rattle.script.specs.declared.header.Header.{Header}
 use Rattle.script.specs.declared.header.Kind.{Kind}
-use Rattle.script.specs.Answers.{answer_of, line_shown}
+use Rattle.script.specs.Answers.{LineAnswer, answer_of, line_shown}
 use Rattle.script.specs.Calls.{call_of}
 use Rattle.script.specs.Openings.{opening_of}
 use Rattle.script.specs.Rules.{rule_said}
@@ -22,13 +23,13 @@ use Rattle.script.specs.Rules.{rule_said}
 
 -- The answer to a line, and the state of the register after it.
 pub record Turn (F : Type 0) : Type 0 where
-  pub answer : Answer F
+  pub answer : LineAnswer F
   pub next : State F
 
 -- A line that says a call is answered by the call's step. Any other is declined and changes nothing.
 abbrev pub turned : {F : Type 0} → Rule → State F → Result (Call F) TextFault → Turn F
 turned rule s (Ok c) = record { answer = answer_of (step rule s c).reply; next = (step rule s c).next }
-turned rule s (Err e) = record { answer = Answer.Declined (ScriptFault.Text e); next = s }
+turned rule s (Err e) = record { answer = Err (ScriptFault.Text e); next = s }
 
 abbrev pub turn : {F : Type 0} → Ghosts F → Rule → State F → List ℕ → Turn F
 turn kind rule s line = turned rule s (call_of kind line)
@@ -53,13 +54,23 @@ by_kind Kind.Tide h ls = call_answers tide_kind h ls
 by_kind Kind.Order h ls = call_answers order_kind h ls
 
 -- An answer that shows no figure.
-abbrev pub plain_line : ℕ → Answer (Unit {0}) → List ℕ
+abbrev pub plain_line : ℕ → LineAnswer (Unit {0}) → List ℕ
 plain_line n a = line_shown (λ u. []) n a
+
+-- What is printed for a script with this header, where the making of its draft answers this: a refusal ends the run.
+abbrev pub headed : {F : Type 0} → Ghosts F → Header → Result (Unit {0}) RuleRefusal → List (List ℕ) → List ℕ
+headed kind h (Ok u) ls = plain_line 1 (Ok Reply.Done) ++ call_answers kind h ls
+headed kind h (Err e) ls = plain_line 1 (Err (ScriptFault.Rule e))
+
+-- Whether a making answered a draft or a refusal, and which.
+abbrev pub whether : {A : Type 0} → Result A RuleRefusal → Result (Unit {0}) RuleRefusal
+whether (Ok a) = Ok tt
+whether (Err e) = Err e
 
 -- A declined first line ends the run.
 abbrev pub opened : Result Header ScriptFault → List (List ℕ) → List ℕ
-opened (Ok h) ls = plain_line 1 (Answer.Accepted 0) ++ by_kind h.kind h ls
-opened (Err e) ls = plain_line 1 (Answer.Declined e)
+opened (Ok h) ls = plain_line 1 (Ok Reply.Done) ++ by_kind h.kind h ls
+opened (Err e) ls = plain_line 1 (Err e)
 
 abbrev pub script_answers : List (List ℕ) → List ℕ
 script_answers [] = []
@@ -69,5 +80,5 @@ script_answers (first ∷ ls) = opened (opening_of first) ls
 
 abbrev pub played : List ℕ → List ℕ
 played text =
-    cond (nat_lt 65536 (length text)) (plain_line 0 (Answer.Declined (ScriptFault.Text TextFault.NotText)))
+    cond (nat_lt 65536 (length text)) (plain_line 0 (Err (ScriptFault.Text TextFault.NotText)))
     (script_answers (lines text))

@@ -6,10 +6,9 @@ use Rattle.figure.specs.contracts.tide.TideFigureKind.TheImpl.{ghosts as tide_ki
 use Rattle.figure.specs.declared.kind.FigureKind.{Ghosts}
 use Rattle.text.specs.Lines.{lines}
 use Rattle.model.specs.declared.calls.Call.{Call}
-use Rattle.model.specs.declared.answers.Reply.{Reply}
+use Rattle.model.specs.Answers.{Answer}
 use Rattle.model.specs.History.{Run, run, replies}
 use Rattle.model.specs.Claims.{Served}
-use Rattle.script.specs.declared.answer.Answer.{Answer}
 use Rattle.script.specs.declared.fault.ScriptFault.{ScriptFault}
 use Rattle.script.specs.declared.fault.TextFault.{TextFault}
 use Rattle.script.specs.declared.header.Header.{Header}
@@ -31,13 +30,13 @@ calls_in kind (l ∷ ls) = call_or (call_of kind l) (calls_in kind ls)
 
 -- The lines that are printed, from n on, where the calls have these replies: each line that says no call is declined, and
 -- each that says one is answered by the next reply.
-abbrev pub told_line : {F : Type 0} → Ghosts F → (ℕ → List (Reply F) → List ℕ) → ℕ → Result (Call F) TextFault
-    → List (Reply F) → List ℕ
-told_line kind rest n (Err e) rs = line_shown kind.shown n (Answer.Declined (ScriptFault.Text e)) ++ rest (n + 1) rs
+abbrev pub told_line : {F : Type 0} → Ghosts F → (ℕ → List (Answer F) → List ℕ) → ℕ → Result (Call F) TextFault
+    → List (Answer F) → List ℕ
+told_line kind rest n (Err e) rs = line_shown kind.shown n (Err (ScriptFault.Text e)) ++ rest (n + 1) rs
 told_line kind rest n (Ok c) [] = []
 told_line kind rest n (Ok c) (r ∷ rs) = line_shown kind.shown n (answer_of r) ++ rest (n + 1) rs
 
-unfoldable pub told : {F : Type 0} → Ghosts F → List (List ℕ) → ℕ → List (Reply F) → List ℕ
+unfoldable pub told : {F : Type 0} → Ghosts F → List (List ℕ) → ℕ → List (Answer F) → List ℕ
 told kind [] n rs = []
 told kind (l ∷ ls) n rs = told_line kind (told kind ls) n (call_of kind l) rs
 

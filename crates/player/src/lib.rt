@@ -4,6 +4,7 @@
 
 mod playing;
 mod printing;
+mod setting_up;
 mod turn;
 
 pub use playing::play;

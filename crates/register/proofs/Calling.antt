@@ -1,9 +1,12 @@
 -- A call carries the claims, whatever the lengths of the tables are.
-use Rattle.std.proofs.Common.{◌≡◌, true, false, [], ◌∷◌, ◌++◌, length, sym, refl, ap, ◌∙◌, subst}
+use Rattle.std.proofs.Common.{◌≡◌, ℕ, true, false, Err, [], ◌∷◌, ◌++◌, length, sym, refl, ap, ◌∙◌, subst}
+use Rattle.std.specs.Result.{IsErrAnd}
 use Rattle.std.proofs.lemmas.Bool.{and_parts, eqb-true, eq-eqb}
+use Rattle.std.proofs.lemmas.Result.{err_from_is_err_and}
 use Rattle.quorum.specs.Sets.{Rule}
+use Rattle.quorum.specs.declared.system.QuorumSystem.{Ghosts}
 use Rattle.model.specs.declared.calls.Call.{Call}
-use Rattle.model.specs.declared.answers.Reply.{Reply}
+use Rattle.model.specs.Answers.{Answer}
 use Rattle.model.specs.declared.answers.Refusal.{Refusal}
 use Rattle.model.specs.State.{State}
 use Rattle.model.specs.Sound.{sound}
@@ -11,10 +14,11 @@ use Rattle.model.specs.Steps.{Outcome, step}
 use Rattle.model.specs.History.{History, Grows, more}
 use Rattle.model.proofs.Serving.{serves}
 use Rattle.tables.specs.declared.numbers.Numbers.{Numbers}
-use Rattle.tables.specs.View.{Tables, view, Fitting, Kept}
+use Rattle.tables.specs.View.{Tables, view, Fitting, Kept, rule_for}
 use Rattle.steps.specs.Doing.{judged, Does, SameSizes}
 use Rattle.register.specs.Histories.{Grown, called}
-use Rattle.register.specs.Calls.{fits, answered, CarriesAnswered, Checked, Declines}
+use Rattle.register.specs.declared.service.Register.{Register}
+use Rattle.register.specs.Calls.{fits, answered, CarriesAnswered, meaning, Plays, Checked, Declines}
 use Rattle.register.proofs.Histories.{step_sound, step_unsound}
 use Rattle.steps.proofs.Judging.{same_sizes}
 use Rattle.steps.proofs.Fronts.{stored_take}
@@ -75,7 +79,7 @@ module _ {F : Type 0} (rule : Rule) (start : F) (n : Numbers) (t : Tables F) whe
   unfolding answered
   declines_unsound e u c = rw e (step_unsound rule (view start n t) c u)
 
-  module _ (c : Call F) (r : Reply F) (n' : Numbers) (t' : Tables F) where
+  module _ (c : Call F) (r : Answer F) (n' : Numbers) (t' : Tables F) where
     carries_answered : SameLengths t t' → Does start (answered rule start n t c) n t r n' t' → CarriesAnswered rule start c n t r n' t'
     carries_answered lengths d =
         let grown : (h : History F) → Grown rule start h n t → Grown rule start (h ++ called rule start n t c ∷ []) n' t'
@@ -92,7 +96,7 @@ module _ {F : Type 0} (rule : Rule) (start : F) (n : Numbers) (t : Tables F) whe
         }
 
     -- behind the check, what the call comes to on sound tables
-    pub carries_judged : Checked rule start n t → SameLengths t t' → Does start (judged rule (view start n t) c) n t r n' t'
+    carries_judged : Checked rule start n t → SameLengths t t' → Does start (judged rule (view start n t) c) n t r n' t'
         → CarriesAnswered rule start c n t r n' t'
     carries_judged checked lengths d =
         carries_answered lengths
@@ -100,10 +104,10 @@ module _ {F : Type 0} (rule : Rule) (start : F) (n : Numbers) (t : Tables F) whe
         (sym (answered_fitting checked.fitting c ∙ step_sound rule (view start n t) c checked.is_sound)) d)
 
   -- before it, a refusal
-  pub carries_declined : (c : Call F) (e : Refusal) → Kept n → Declines rule start n t e
-      → CarriesAnswered rule start c n t (Reply.Declined e) n t
+  carries_declined : (c : Call F) (e : Refusal) → Kept n → Declines rule start n t e
+      → CarriesAnswered rule start c n t (Err e) n t
   carries_declined c e kept declines =
-      carries_answered c (Reply.Declined e) n t (same_lengths t) (rw (declines c) (record {
+      carries_answered c (Err e) n t (same_lengths t) (rw (declines c) (record {
         answer = refl;
         state = refl;
         messages = sym (stored_take n.waiting t.messages);
@@ -111,3 +115,42 @@ module _ {F : Type 0} (rule : Rule) (start : F) (n : Numbers) (t : Tables F) whe
         kept = kept;
         sizes = same_sizes n;
       }))
+
+-- THE REGISTER
+
+module _ {R F : Type 0} {g : Ghosts R} (x : Register R F g) where
+  -- the rule over the replicas that the numbers say
+  pub rule_is : rule_for g x.rule x.numbers.replicas ≡ meaning x
+  rule_is = ap (λ (size : ℕ). rule_for g x.rule size) x.sized
+
+  module _ {t : Tables F} where
+    -- where the check's refusal is handed on
+    pub plays_declined : {c : Call F} (r : Answer F) (e : Refusal) → IsErrAnd r (λ y. y ≡ e)
+        → Declines (meaning x) x.start x.numbers t e → Plays c x t r x t
+    plays_declined {c} r e is declines =
+        let p = err_from_is_err_and r is in
+        rw (p.1, p.2)
+        (record {
+          rule = refl;
+          start = refl;
+          carries = carries_declined _ _ _ _ c e x.kept declines;
+        })
+
+    module _ {c : Call F} {r : Answer F} {n' : Numbers} {t' : Tables F} where
+      pub plays_judged : (x' : Register R F g) → x'.rule ≡ x.rule → x'.start ≡ x.start → x'.numbers ≡ n'
+          → Checked (meaning x) x.start x.numbers t → SameLengths t t'
+          → Does x.start (judged (meaning x) (view x.start x.numbers t) c) x.numbers t r n' t' → Plays c x t r x' t'
+      plays_judged x' rule start numbers checked lengths d = record {
+        rule = rule;
+        start = start;
+        carries = rw numbers (carries_judged _ _ _ _ c r n' t' checked lengths d);
+      }
+
+      -- where the rule's size was read from the numbers
+      pub plays_sized : (x' : Register R F g) → x'.rule ≡ x.rule → x'.start ≡ x.start → x'.numbers ≡ n'
+          → Checked (meaning x) x.start x.numbers t → SameLengths t t'
+          → Does x.start (judged (rule_for g x.rule x.numbers.replicas) (view x.start x.numbers t) c) x.numbers t r n' t'
+          → Plays c x t r x' t'
+      plays_sized x' rule start numbers checked lengths d =
+          plays_judged x' rule start numbers checked lengths
+          (subst (λ (l : Rule). Does x.start (judged l (view x.start x.numbers t) c) x.numbers t r n' t') rule_is d)

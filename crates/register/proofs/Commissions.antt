@@ -12,22 +12,14 @@ use Rattle.register.specs.declared.service.Register.{Register}
 use Rattle.tables.specs.View.{Tables, view, Fitting, Kept}
 use Rattle.register.specs.Histories.{Grown}
 use Rattle.register.specs.Calls.{meaning}
-use Rattle.register.specs.Commissioning.{Filled}
-use Rattle.register.specs.Service.{drafted, allowed, first_numbers, InService}
+use Rattle.register.specs.Commissioning.{new_numbers, Filled}
+use Rattle.register.specs.Service.{drafted, rooms_fit, allowed, Opened, InService}
 
-module _ {R F : Type 0} (d : Draft R F) (t : Tables F) (fit : allowed d t ≡ true) where
-  fits : Fitting (first_numbers d t) t
-  fits = record {
-    replicas = grind (arith, nat_tests);
-    readers = grind (arith, nat_tests);
-    marks = grind (arith, nat_tests);
-    messages = refl;
-    journal = refl;
-  }
-
-  pub kept_first : (n : Numbers) → n ≡ first_numbers d t → Kept n
+module _ {R F : Type 0} {g : Ghosts R} (d : Draft R F g) where
+  pub kept_first : (message_room journal_room : ℕ) → rooms_fit d message_room journal_room ≡ true → (n : Numbers)
+      → n ≡ new_numbers (drafted d).size d.readers message_room journal_room → Kept n
   unfolding no_stamp
-  kept_first n e = rw e (record {
+  kept_first message_room journal_room fit n e = rw e (record {
     some_replica = d.sizes.0;
     few_replicas = d.sizes.1;
     some_reader = d.sizes.2;
@@ -39,9 +31,20 @@ module _ {R F : Type 0} (d : Draft R F) (t : Tables F) (fit : allowed d t ≡ tr
     stamps = omega arith;
   })
 
-  module _ (g : Ghosts R) (filled : Filled d.start t) where
-    state : view d.start (first_numbers d t) t
-        ≡ fresh (drafted g d) d.start d.readers (length t.messages) (length t.journal)
+  module _ (t : Tables F) (fit : allowed d t ≡ true) (filled : Filled d.start t) where
+    abbrev first : Numbers
+    first = new_numbers (drafted d).size d.readers (length t.messages) (length t.journal)
+
+    fits : Fitting first t
+    fits = record {
+      replicas = grind (arith, nat_tests);
+      readers = grind (arith, nat_tests);
+      marks = grind (arith, nat_tests);
+      messages = refl;
+      journal = refl;
+    }
+
+    state : view d.start first t ≡ fresh (drafted d) d.start d.readers (length t.messages) (length t.journal)
     unfolding fresh
     state =
         let rs = filled.replicas ∙ ap (λ (n : ℕ). replicate n (new_replica d.start)) fits.replicas in
@@ -49,22 +52,18 @@ module _ {R F : Type 0} (d : Draft R F) (t : Tables F) (fit : allowed d t ≡ tr
         let ks = filled.marks ∙ ap (λ (n : ℕ). replicate n new_mark) fits.marks in
         rw (rs, ds, ks)
 
-    begins : Grown (drafted g d) d.start [] (first_numbers d t) t
+    begins : Grown (drafted d) d.start [] first t
     begins = record {
       fits = fits;
-      grows = subst (λ (s : State F). Grows (drafted g d) d.start [] s) (sym state) (begun _ _ _);
+      grows = subst (λ (s : State F). Grows (drafted d) d.start [] s) (sym state) (begun _ _ _);
     }
 
-    pub in_service : (x : Register R F) → x.rule ≡ d.rule → x.start ≡ d.start → x.numbers ≡ first_numbers d t
-        → InService g d x t
-    in_service x rule start numbers =
-        let b : Grown (meaning g x) x.start [] x.numbers t = rw (rule, start, numbers) begins in
+    pub in_service : (x : Register R F g) → Opened d (length t.messages) (length t.journal) x → InService d x t
+    in_service x o =
+        let b : Grown (meaning x) x.start [] x.numbers t = rw (o.rule, o.start, o.numbers) begins in
         record {
-          rule = rule;
-          start = start;
-          numbers = numbers;
-          same_meaning = rw (rule, numbers);
-          state = rw (start, numbers) state;
+          opened = o;
+          state = rw (o.start, o.numbers) state;
           begins = b;
-          serves = λ law. serves F (meaning g x) law x.start [] _ b.grows;
+          serves = λ law. serves F (meaning x) law x.start [] _ b.grows;
         }

@@ -1,64 +1,92 @@
 -- A draft's register over new tables of its own.
-use Rattle.std.proofs.Common.{◌≡◌, ℕ, ◌*◌, ◌≤◌, true, List, length, replicate, sym, ap, ◌∙◌, ap₂, arith}
-use lib.ListN.{length-replicate}
+use Rattle.std.proofs.Common.{◌≡◌, ℕ, ◌+◌, ◌*◌, ◌<◌, ◌≤◌, true, List, length, replicate, vec_items, vec_len, sym, ap, ◌∙◌, subst, ap₂, arith}
+use Rattle.std.proofs.lemmas.List.{length-replicate}
 use Rattle.std.proofs.lemmas.Bool.{eq-eqb}
 use Rattle.std.proofs.lemmas.Bool.Decides.{nat_tests}
 use Rattle.quorum.specs.declared.system.QuorumSystem.{Ghosts}
-use Rattle.model.specs.State.{State, new_replica, new_reader, new_mark}
+use Rattle.quorum.specs.Meaning.{rule_of}
+use Rattle.model.specs.State.{State, fresh}
 use Rattle.model.specs.Sound.{sound}
 use Rattle.model.proofs.SoundCalls.{fresh_sound}
 use Rattle.tables.specs.declared.numbers.Numbers.{Numbers}
 use Rattle.register.specs.declared.service.Draft.{Draft}
 use Rattle.register.specs.declared.service.Register.{Register}
+use Rattle.register.specs.declared.service.cluster.OwnedTables.{OwnedTables}
 use Rattle.tables.specs.View.{Tables, view}
-use Rattle.tables.specs.Judged.{of_size}
-use Rattle.register.specs.Commissioning.{new_numbers, Filled}
-use Rattle.register.specs.Service.{drafted, rooms_fit, allowed, first_numbers, InService}
-use Rattle.tables.proofs.WholeTables.{sound_sized}
+use Rattle.steps.specs.Queueing.{window}
+use Rattle.steps.proofs.Queues.{window_long}
+use Rattle.register.specs.Owned.{owned}
+use Rattle.register.specs.Service.{drafted, rooms_fit, allowed, Opened, InService}
+use Rattle.register.specs.Clusters.{Made}
+use Rattle.register.proofs.Commissions.{in_service}
 
--- Tables made for a draft.
-pub record Made {R F : Type 0} (d : Draft R F) (message_room journal_room : ℕ) (t : Tables F) : Type 0 where
-  pub replicas : t.replicas ≡ replicate d.replicas (new_replica d.start)
-  pub readers : t.readers ≡ replicate d.readers (new_reader d.start)
-  pub marks : t.marks ≡ replicate (d.replicas * d.readers) new_mark
-  pub messages : length t.messages ≡ message_room
-  pub journal : length t.journal ≡ journal_room
+many : {A : Type 0} (l : List A) (n : ℕ) (x : A) → l ≡ replicate n x → length l ≡ n
+many l n x e = ap length e ∙ length-replicate n x
 
-module _ {R F : Type 0} (d : Draft R F) (message_room journal_room : ℕ) (t : Tables F) (m : Made d message_room journal_room t) where
-  many : {A : Type 0} (l : List A) (n : ℕ) (x : A) → l ≡ replicate n x → length l ≡ n
-  many l n x e = ap length e ∙ length-replicate n x
+only : {A : Type 0} (l : List A) (n : ℕ) (x : A) → l ≡ replicate n x → l ≡ replicate (length l) x
+only l n x e = e ∙ ap (λ k. replicate k x) (sym (many l n x e))
 
-  only : {A : Type 0} (l : List A) (n : ℕ) (x : A) → l ≡ replicate n x → l ≡ replicate (length l) x
-  only l n x e = e ∙ ap (λ k. replicate k x) (sym (many l n x e))
+module _ {R F : Type 0} {g : Ghosts R} (d : Draft R F g) (message_room journal_room : ℕ)
+    (fit : rooms_fit d message_room journal_room ≡ true) (o : OwnedTables F) (m : Made d message_room journal_room o)
+    (x : Register R F g) (opened : Opened d message_room journal_room x) where
+  abbrev new : Tables F
+  new = owned message_room o
 
-  pub made_filled : Filled d.start t
-  made_filled = record {
-    replicas = only t.replicas d.replicas _ m.replicas;
-    readers = only t.readers d.readers _ m.readers;
-    marks = only t.marks (d.replicas * d.readers) _ m.marks;
-  }
+  messages_long : length new.messages ≡ message_room
+  messages_long = window_long o.head message_room (vec_items o.queue) (omega (arith, m.head, m.queue, o.queue.ok.0))
 
-  pub made_allowed : rooms_fit d message_room journal_room ≡ true → allowed d t ≡ true
-  made_allowed rooms =
+  journal_long : length new.journal ≡ journal_room
+  journal_long = sym o.journal.ok.0 ∙ m.journal
+
+  is_allowed : allowed d new ≡ true
+  is_allowed =
       rw (
-        eq-eqb _ _ (many t.replicas d.replicas _ m.replicas),
-        eq-eqb _ _ (many t.readers d.readers _ m.readers),
-        eq-eqb _ _ (many t.marks (d.replicas * d.readers) _ m.marks),
-        m.messages,
-        m.journal,
-      ) rooms
+        eq-eqb _ _ (many new.replicas _ _ m.replicas),
+        eq-eqb _ _ (many new.readers _ _ m.readers),
+        eq-eqb _ _ (many new.marks _ _ m.marks),
+        messages_long,
+        journal_long,
+      ) fit
 
-  pub made_numbers : new_numbers d.replicas d.readers message_room journal_room ≡ first_numbers d t
-  made_numbers = ap₂ (new_numbers d.replicas d.readers) (sym m.messages) (sym m.journal)
+  room_is : x.numbers.message_room ≡ message_room
+  room_is = ap (λ (n : Numbers). n.message_room) opened.numbers
 
--- there is room for a message, since there is for one to each replica
-pub some_room : {R F : Type 0} (d : Draft R F) (message_room journal_room : ℕ) → rooms_fit d message_room journal_room ≡ true
-    → 1 ≤ message_room
-some_room d message_room journal_room fit = let least = d.sizes.0 in grind (arith, nat_tests)
+  pub service : InService d x (owned x.numbers.message_room o)
+  service =
+      subst (λ (k : ℕ). InService d x (owned k o)) (sym room_is)
+      (in_service d new is_allowed
+      (record { replicas = only _ _ _ m.replicas; readers = only _ _ _ m.readers; marks = only _ _ _ m.marks })
+      x (rw (messages_long, journal_long) opened))
 
-pub new_sound : {R F : Type 0} (g : Ghosts R) (d : Draft R F) (x : Register R F) (t : Tables F) → InService g d x t
-    → sound (of_size x.numbers.replicas) (view x.start x.numbers t) ≡ true
-new_sound {R} {F} g d x t s =
-    sound_sized (of_size x.numbers.replicas) (drafted g d) _ (ap (λ (n : Numbers). n.replicas) s.numbers)
-    ∙ ap (λ (v : State F). sound (drafted g d) v) s.state
-    ∙ fresh_sound (drafted g d) d.start d.readers (length t.messages) (length t.journal)
+  pub state_is : view x.start x.numbers (owned x.numbers.message_room o)
+      ≡ fresh (drafted d) d.start d.readers message_room journal_room
+  state_is =
+      service.state
+      ∙ ap₂ (fresh (drafted d) d.start d.readers)
+      (ap (λ (k : ℕ). length (window o.head k (vec_items o.queue))) room_is ∙ messages_long) journal_long
+
+  -- what the type of a cluster keeps
+  pub new_cluster
+      : record {
+        replicas_fit : vec_len o.replicas ≡ x.numbers.replicas;
+        readers_fit : vec_len o.readers ≡ x.numbers.readers;
+        marks_fit : vec_len o.marks ≡ x.numbers.replicas * x.numbers.readers;
+        queue_fits : o.head + x.numbers.message_room ≤ vec_len o.queue;
+        queue_slack : x.numbers.message_room < vec_len o.queue;
+        journal_fits : vec_len o.journal ≡ x.numbers.journal_room;
+        sound : sound (rule_of g x.rule) (view x.start x.numbers (owned x.numbers.message_room o)) ≡ true;
+      }
+  new_cluster =
+      let least = d.sizes.0 in
+      let some_room : 1 ≤ message_room = grind (arith, nat_tests) in
+      record {
+        replicas_fit = o.replicas.ok.0 ∙ rw opened.numbers (many new.replicas _ _ m.replicas);
+        readers_fit = o.readers.ok.0 ∙ rw opened.numbers (many new.readers _ _ m.readers);
+        marks_fit = o.marks.ok.0 ∙ rw opened.numbers (many new.marks _ _ m.marks);
+        queue_fits = omega (arith, room_is, m.head, m.queue);
+        queue_slack = omega (arith, room_is, m.queue, some_room);
+        journal_fits = rw opened.numbers m.journal;
+        sound =
+            ap₂ (λ (r : R) (s : State F). sound (rule_of g r) s) opened.rule service.state
+            ∙ fresh_sound (drafted d) d.start d.readers _ _;
+      }

@@ -1,7 +1,7 @@
 pub mod Histories
 pub mod Calling
-pub mod Invariants
 pub mod Running
 pub mod Owned
+pub mod Filling
 pub mod Commissions
 pub mod Founding

@@ -1,9 +1,9 @@
 -- A register that owns its tables: they fit, they are sound, and a call leaves them so.
-use Rattle.std.proofs.Common.{◌≡◌, ℕ, true, List, [], ◌∷◌, ◌++◌, length, vec_items, sym, refl, ap, ◌∙◌, subst, arith}
+use Rattle.std.proofs.Common.{◌≡◌, ℕ, ◌+◌, ◌*◌, ◌<◌, ◌≤◌, true, List, [], ◌∷◌, ◌++◌, length, vec_items, vec_len, sym, refl, ap, ◌∙◌, subst, arith}
 use Rattle.std.specs.Vec.{with_items}
 use Rattle.std.proofs.lemmas.List.{with_items_is}
 use Rattle.quorum.specs.Sets.{Rule}
-use Rattle.quorum.specs.Laws.{Lawful}
+use Rattle.quorum.specs.Meaning.{rule_of}
 use Rattle.quorum.specs.declared.system.QuorumSystem.{Ghosts}
 use Rattle.model.specs.declared.replica.Replica.{Replica}
 use Rattle.model.specs.declared.reader.Reader.{Reader}
@@ -11,78 +11,143 @@ use Rattle.model.specs.declared.marks.RelayMark.{RelayMark}
 use Rattle.model.specs.declared.messages.Message.{Message}
 use Rattle.model.specs.declared.journal.Operation.{Operation}
 use Rattle.model.specs.declared.calls.Call.{Call}
-use Rattle.model.specs.declared.answers.Reply.{Reply}
+use Rattle.model.specs.Answers.{Answer}
 use Rattle.model.specs.State.{State}
 use Rattle.model.specs.Sound.{sound}
 use Rattle.model.specs.Steps.{Outcome, step}
-use Rattle.model.specs.History.{History, event, Grows, more}
-use Rattle.model.specs.Claims.{Served}
+use Rattle.model.specs.History.{event, Grows, more}
 use Rattle.model.proofs.Serving.{serves}
 use Rattle.model.proofs.SoundCalls.{sound_kept}
 use Rattle.tables.specs.declared.numbers.Numbers.{Numbers}
+use Rattle.register.specs.declared.service.cluster.OwnedTables.{OwnedTables}
 use Rattle.register.specs.declared.service.cluster.Cluster.{Cluster}
-use Rattle.tables.specs.View.{Tables, tables, view, Fitting}
+use Rattle.tables.specs.View.{Tables, tables, view, rule_for}
 use Rattle.steps.specs.Doing.{judged}
 use Rattle.steps.specs.Queueing.{window, Advances}
-use Rattle.steps.proofs.Queues.{window_long}
-use Rattle.tables.specs.Judged.{of_size}
-use Rattle.register.specs.Clusters.{cluster_tables, cluster_state, cluster_rule}
+use Rattle.register.specs.Owned.{owned}
+use Rattle.register.specs.Clusters.{cluster_state, cluster_rule, Steps}
 use Rattle.register.proofs.Histories.{step_sound}
-use Rattle.tables.proofs.WholeTables.{sound_sized}
+use Rattle.register.proofs.Calling.{rule_is}
 
-pub tables_are : {F : Type 0} {a a' : List (Replica F)} {b b' : List (Reader F)} {c c' : List RelayMark}
-    {d d' : List (Message F)} {e e' : List (Operation F)} → a ≡ a' → b ≡ b' → c ≡ c' → d ≡ d' → e ≡ e'
-    → tables a b c d e ≡ tables a' b' c' d' e'
-tables_are p q r s t = rw (p, q, r, s, t)
+-- The five lists that are lent to a call, of the messages the whole queue.
+pub record Lent (F : Type 0) : Type 0 where
+  pub replicas : List (Replica F)
+  pub readers : List (Reader F)
+  pub marks : List RelayMark
+  pub queue : List (Message F)
+  pub journal : List (Operation F)
 
-module _ {R F : Type 0} (x : Cluster R F) where
-  pub cluster_fitting : Fitting x.register.numbers (cluster_tables x)
-  cluster_fitting = record {
-    replicas = sym x.replicas.ok.0 ∙ x.replicas_fit;
-    readers = sym x.readers.ok.0 ∙ x.readers_fit;
-    marks = sym x.marks.ok.0 ∙ x.marks_fit;
-    messages = window_long x.head x.register.numbers.message_room (vec_items x.queue) (omega (arith, x.queue_fits, x.queue.ok.0));
-    journal = sym x.journal.ok.0 ∙ x.journal_fits;
-  }
+abbrev pub lists : {F : Type 0} → OwnedTables F → Lent F
+lists o = record {
+  replicas = vec_items o.replicas;
+  readers = vec_items o.readers;
+  marks = vec_items o.marks;
+  queue = vec_items o.queue;
+  journal = vec_items o.journal;
+}
 
-  pub cluster_sound : (g : Ghosts R) → sound (cluster_rule g x) (cluster_state x) ≡ true
-  cluster_sound g = sound_sized (cluster_rule g x) (of_size x.register.numbers.replicas) (cluster_state x) refl ∙ x.sound
+abbrev pub lent_tables : {F : Type 0} → ℕ → ℕ → Lent F → Tables F
+lent_tables head room l = tables l.replicas l.readers l.marks (window head room l.queue) l.journal
 
--- The tables after they were lent and written into: they are what came back, which is as long.
-module _ {R F : Type 0} (x : Cluster R F) (head room : ℕ) (replicas : List (Replica F)) (readers : List (Reader F))
-    (marks : List RelayMark) (queue : List (Message F)) (journal : List (Operation F)) where
-  abbrev pub refilled_tables : Tables F
-  refilled_tables =
-      tables (vec_items (with_items x.replicas replicas)) (vec_items (with_items x.readers readers))
-      (vec_items (with_items x.marks marks)) (window head room (vec_items (with_items x.queue queue)))
-      (vec_items (with_items x.journal journal))
+-- Each came back as long as it was.
+pub record AsLong {F : Type 0} (o : OwnedTables F) (l : Lent F) : Type 0 where
+  pub replicas : length l.replicas ≡ o.replicas.len
+  pub readers : length l.readers ≡ o.readers.len
+  pub marks : length l.marks ≡ o.marks.len
+  pub queue : length l.queue ≡ o.queue.len
+  pub journal : length l.journal ≡ o.journal.len
 
-  pub refilled_are : length replicas ≡ x.replicas.len → length readers ≡ x.readers.len → length marks ≡ x.marks.len
-      → length queue ≡ x.queue.len → length journal ≡ x.journal.len
-      → refilled_tables ≡ tables replicas readers marks (window head room queue) journal
-  refilled_are a b c d e =
-      tables_are (with_items_is x.replicas replicas a) (with_items_is x.readers readers b) (with_items_is x.marks marks c)
-      (ap (λ (l : List (Message F)). window head room l) (with_items_is x.queue queue d)) (with_items_is x.journal journal e)
+abbrev pub refilled : {F : Type 0} → OwnedTables F → ℕ → Lent F → OwnedTables F
+refilled o head l = record {
+  replicas = with_items o.replicas l.replicas;
+  readers = with_items o.readers l.readers;
+  marks = with_items o.marks l.marks;
+  queue = with_items o.queue l.queue;
+  head = head;
+  journal = with_items o.journal l.journal;
+}
 
--- a call behind the check on sound tables
-module _ {F : Type 0} (rule : Rule) (start : F) (n : Numbers) (t : Tables F) (is_sound : sound rule (view start n t) ≡ true)
-    (c : Call F) (r : Reply F) (n' : Numbers) (t' : Tables F) (d : Advances start (judged rule (view start n t) c) n r n' t') where
-  stepped : judged rule (view start n t) c ≡ step rule (view start n t) c
-  stepped = sym (step_sound rule (view start n t) c is_sound)
+refilled_are : {F : Type 0} (o : OwnedTables F) (head room : ℕ) (l : Lent F) → AsLong o l
+    → owned room (refilled o head l) ≡ lent_tables head room l
+refilled_are o head room l long =
+    rw (
+      with_items_is o.replicas l.replicas long.replicas,
+      with_items_is o.readers l.readers long.readers,
+      with_items_is o.marks l.marks long.marks,
+      with_items_is o.queue l.queue long.queue,
+      with_items_is o.journal l.journal long.journal,
+    ) refl
 
-  pub answer_is : r ≡ (step rule (view start n t) c).reply
-  answer_is = d.answer ∙ ap (λ (o : Outcome F). o.reply) stepped
+-- A call behind the check, over the lists that a cluster lent.
+module _ {R F : Type 0} {g : Ghosts R} (x : Cluster R F g) (c : Call F) (lent back : Lent F) (is : lent ≡ lists x.tables)
+    (long : AsLong x.tables back) (r : Answer F) (head : ℕ) (n' : Numbers)
+    (within : head + x.register.numbers.message_room ≤ length lent.queue)
+    (did : Advances x.register.start
+    (judged (rule_for g x.register.rule x.register.numbers.replicas)
+    (view x.register.start x.register.numbers (lent_tables x.tables.head x.register.numbers.message_room lent)) c)
+    x.register.numbers r n' (lent_tables head x.register.numbers.message_room back)) where
+  abbrev n : Numbers
+  n = x.register.numbers
 
-  pub state_is : view start n' t' ≡ (step rule (view start n t) c).next
-  state_is = d.state ∙ ap (λ (o : Outcome F). o.next) stepped
+  abbrev start : F
+  start = x.register.start
 
-  pub sound_still : (size : ℕ) → size ≡ rule.size → sound (of_size size) (view start n' t') ≡ true
-  sound_still size e =
-      sound_sized (of_size size) rule (view start n' t') e
-      ∙ ap (λ (s : State F). sound rule s) state_is ∙ sound_kept rule (view start n t) c is_sound
+  abbrev rule : Rule
+  rule = cluster_rule x
 
-  pub serves_more : (h : History F) → Grows rule start h (view start n t) → Lawful rule
-      → Served rule start (h ++ event c (step rule (view start n t) c) ∷ []) (view start n' t')
-  serves_more h grows law =
-      serves F rule law start _ _
-      (subst (λ (s : State F). Grows rule start (h ++ event c (step rule (view start n t) c) ∷ []) s) (sym state_is) (more grows c))
+  abbrev after : State F
+  after = view start n' (owned n'.message_room (refilled x.tables head back))
+
+  -- what the tables are now
+  held : owned n'.message_room (refilled x.tables head back) ≡ lent_tables head n.message_room back
+  held =
+      refilled_are x.tables head n'.message_room back long
+      ∙ ap (λ (room : ℕ). lent_tables head room back) did.sizes.message_room
+
+  stepped : judged (rule_for g x.register.rule n.replicas) (view start n (lent_tables x.tables.head n.message_room lent)) c
+      ≡ step rule (cluster_state x) c
+  stepped =
+      ap (λ (l : Rule). judged l (view start n (lent_tables x.tables.head n.message_room lent)) c) (rule_is x.register)
+      ∙ ap (λ (l : Lent F). judged rule (view start n (lent_tables x.tables.head n.message_room l)) c) is
+      ∙ sym (step_sound rule (cluster_state x) c x.sound)
+
+  next : after ≡ (step rule (cluster_state x) c).next
+  next = ap (λ (t : Tables F). view start n' t) held ∙ did.state ∙ ap (λ (o : Outcome F). o.next) stepped
+
+  -- what the type of a cluster keeps
+  pub still
+      : record {
+        replicas_fit : vec_len x.tables.replicas ≡ n'.replicas;
+        readers_fit : vec_len x.tables.readers ≡ n'.readers;
+        marks_fit : vec_len x.tables.marks ≡ n'.replicas * n'.readers;
+        queue_fits : head + n'.message_room ≤ vec_len x.tables.queue;
+        queue_slack : n'.message_room < vec_len x.tables.queue;
+        journal_fits : vec_len x.tables.journal ≡ n'.journal_room;
+        sound : sound rule after ≡ true;
+      }
+  still =
+      let same = did.sizes in
+      let queue_long : length lent.queue ≡ x.tables.queue.len = ap (λ (l : Lent F). length l.queue) is ∙ sym x.tables.queue.ok.0 in
+      record {
+        replicas_fit = x.replicas_fit ∙ sym same.replicas;
+        readers_fit = x.readers_fit ∙ sym same.readers;
+        marks_fit = x.marks_fit ∙ sym (rw (same.replicas, same.readers));
+        queue_fits = omega (arith, within, queue_long, same.message_room);
+        queue_slack = omega (arith, x.queue_slack, same.message_room);
+        journal_fits = x.journal_fits ∙ sym same.journal_room;
+        sound = ap (λ (s : State F). sound rule s) next ∙ sound_kept rule (cluster_state x) c x.sound;
+      }
+
+  pub steps : (x' : Cluster R F g) → x'.register.rule ≡ x.register.rule → x'.register.start ≡ start
+      → cluster_state x' ≡ after → Steps c x r x'
+  steps x' same_rule same_start state =
+      let e : cluster_state x' ≡ (step rule (cluster_state x) c).next = state ∙ next in
+      record {
+        rule = ap (λ (a : R). rule_of g a) same_rule;
+        start = same_start;
+        answer = did.answer ∙ ap (λ (o : Outcome F). o.reply) stepped;
+        state = e;
+        serves = λ h grows law.
+            serves F rule law start _ _
+            (subst (λ (s : State F). Grows rule start (h ++ event c (step rule (cluster_state x) c) ∷ []) s) (sym e) (more grows c));
+      }

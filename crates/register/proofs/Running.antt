@@ -2,15 +2,16 @@
 use Rattle.std.proofs.Common.{◌≡◌, ℕ, ◌+◌, ◌<◌, ◌≤◌, List, [], ◌∷◌, ◌++◌, length, get_or, take, sym, refl, ap, ◌∙◌, subst, ap₂, append_assoc, append-nil}
 use Rattle.std.proofs.lemmas.List.{map-append, take_more, take_all}
 use Rattle.quorum.specs.Sets.{Rule}
+use Rattle.quorum.specs.Meaning.{rule_of}
 use Rattle.quorum.specs.declared.system.QuorumSystem.{Ghosts}
 use Rattle.model.specs.declared.calls.Call.{Call}
-use Rattle.model.specs.declared.answers.Reply.{Reply}
+use Rattle.model.specs.Answers.{Answer}
 use Rattle.model.specs.State.{State}
 use Rattle.model.specs.Steps.{Outcome, step}
 use Rattle.model.specs.History.{History, Event, Run, event, run, replies}
 use Rattle.model.proofs.Serving.{serves}
 use Rattle.register.specs.declared.service.Register.{Register}
-use Rattle.tables.specs.View.{Tables, view, rule_for}
+use Rattle.tables.specs.View.{Tables, view}
 use Rattle.register.specs.Histories.{Grown}
 use Rattle.register.specs.Calls.{answered, CarriesAnswered, Plays, meaning}
 use Rattle.register.specs.Runs.{Ran, begun, then, history, Runs}
@@ -31,36 +32,36 @@ module _ {F : Type 0} (rule : Rule) where
       ap (λ (p : Run F). record { history = event d (step rule s d) ∷ p.history; state = p.state })
       (run_more (step rule s d).next cs c)
 
-module _ {R F : Type 0} (g : Ghosts R) (x : Register R F) (t : Tables F) where
+module _ {R F : Type 0} {g : Ghosts R} (x : Register R F g) (t : Tables F) where
   abbrev rule : Rule
-  rule = meaning g x
+  rule = meaning x
 
   -- What a run leaves, seen from a history that led to the register.
-  record Led (cs : List (Call F)) (rs : List (Reply F)) (x' : Register R F) (t' : Tables F) (h : History F) : Type 0 where
-    same_rule : meaning g x' ≡ rule
+  record Led (cs : List (Call F)) (rs : List (Answer F)) (x' : Register R F g) (t' : Tables F) (h : History F) : Type 0 where
+    same_rule : meaning x' ≡ rule
     same_start : x'.start ≡ x.start
     state : view x.start x'.numbers t' ≡ (run rule (view x.start x.numbers t) cs).state
     answers : rs ≡ replies (history rule x.start x.numbers t cs)
     grown : Grown rule x.start (h ++ history rule x.start x.numbers t cs) x'.numbers t'
 
-  led_more : (h : History F) (cs : List (Call F)) (rs : List (Reply F)) (x' : Register R F) (t' : Tables F) → Led cs rs x' t' h
-      → (c : Call F) (r : Reply F) (x'' : Register R F) (t'' : Tables F) → Plays g c x' t' r x'' t''
+  led_more : (h : History F) (cs : List (Call F)) (rs : List (Answer F)) (x' : Register R F g) (t' : Tables F) → Led cs rs x' t' h
+      → (c : Call F) (r : Answer F) (x'' : Register R F g) (t'' : Tables F) → Plays c x' t' r x'' t''
       → Led (cs ++ c ∷ []) (rs ++ r ∷ []) x'' t'' h
   led_more h cs rs x' t' p c r x'' t'' plays =
       let q : Run F = run rule (view x.start x.numbers t) cs in
       let k : CarriesAnswered rule x.start c x'.numbers t' r x''.numbers t''
       = subst (λ (l : Rule). CarriesAnswered l x.start c x'.numbers t' r x''.numbers t'') p.same_rule
-      (subst (λ (f : F). CarriesAnswered (meaning g x') f c x'.numbers t' r x''.numbers t'') p.same_start plays.carries) in
+      (subst (λ (f : F). CarriesAnswered (meaning x') f c x'.numbers t' r x''.numbers t'') p.same_start plays.carries) in
       let o : answered rule x.start x'.numbers t' c ≡ step rule q.state c
       = answered_fitting rule x.start x'.numbers t' p.grown.fits c
       ∙ ap (λ (s : State F). step rule s c) p.state in
       let e = run_more rule (view x.start x.numbers t) cs c in
       record {
-        same_rule = ap₂ (λ (a : R) (size : ℕ). rule_for g a size) plays.rule k.does.sizes.replicas ∙ p.same_rule;
+        same_rule = ap (λ (a : R). rule_of g a) plays.rule ∙ p.same_rule;
         same_start = plays.start ∙ p.same_start;
         state = k.does.state ∙ ap (λ (w : Outcome F). w.next) o ∙ ap (λ (w : Run F). w.state) (sym e);
         answers =
-            ap₂ (λ (a : List (Reply F)) (b : Reply F). a ++ b ∷ []) p.answers
+            ap₂ (λ (a : List (Answer F)) (b : Answer F). a ++ b ∷ []) p.answers
             (k.does.answer ∙ ap (λ (w : Outcome F). w.reply) o)
             ∙ sym (map-append (λ (v : Event F). v.reply) q.history (event c (step rule q.state c) ∷ []))
             ∙ ap (λ (w : Run F). replies w.history) (sym e);
@@ -72,8 +73,8 @@ module _ {R F : Type 0} (g : Ghosts R) (x : Register R F) (t : Tables F) where
             (k.grows (h ++ q.history) p.grown);
       }
 
-  led : (h : History F) → Grown rule x.start h x.numbers t → {cs : List (Call F)} {rs : List (Reply F)}
-      {x' : Register R F} {t' : Tables F} → Ran g x t cs rs x' t' → Led cs rs x' t' h
+  led : (h : History F) → Grown rule x.start h x.numbers t → {cs : List (Call F)} {rs : List (Answer F)}
+      {x' : Register R F g} {t' : Tables F} → Ran x t cs rs x' t' → Led cs rs x' t' h
   unfolding run
   led h grown begun = record {
     same_rule = refl;
@@ -84,34 +85,34 @@ module _ {R F : Type 0} (g : Ghosts R) (x : Register R F) (t : Tables F) where
   }
   led h grown (then {cs = cs} {rs = rs} {x' = x'} {t' = t'} ran c r x'' t'' plays) = led_more h cs rs x' t' (led h grown ran) c r x'' t'' plays
 
-runs : {R F : Type 0} (g : Ghosts R) (x : Register R F) (t : Tables F) (cs : List (Call F)) (rs : List (Reply F))
-    (x' : Register R F) (t' : Tables F) → Ran g x t cs rs x' t' → Runs g cs x t rs x' t'
-runs {R} {F} g x t cs rs x' t' ran = record {
+runs : {R F : Type 0} {g : Ghosts R} (x : Register R F g) (t : Tables F) (cs : List (Call F)) (rs : List (Answer F))
+    (x' : Register R F g) (t' : Tables F) → Ran x t cs rs x' t' → Runs cs x t rs x' t'
+runs {R} {F} x t cs rs x' t' ran = record {
   ran = ran;
   extends = λ h grown.
-      let l = led g x t h grown ran in
+      let l = led x t h grown ran in
       record {
         answers = l.answers;
         grown = l.grown;
-        serves = λ law. serves F (meaning g x) law x.start _ _ l.grown.grows;
+        serves = λ law. serves F (meaning x) law x.start _ _ l.grown.grows;
       };
 }
 
 -- The turns of a loop over the calls.
-module _ {R F : Type 0} {g : Ghosts R} {x : Register R F} {t : Tables F} {rs : List (Reply F)} where
-  pub ran_none : rs ≡ [] → Ran g x t [] rs x t
-  ran_none e = subst (λ (l : List (Reply F)). Ran g x t [] l x t) (sym e) begun
+module _ {R F : Type 0} {g : Ghosts R} {x : Register R F g} {t : Tables F} {rs : List (Answer F)} where
+  pub ran_none : rs ≡ [] → Ran x t [] rs x t
+  ran_none e = subst (λ (l : List (Answer F)). Ran x t [] l x t) (sym e) begun
 
-  module _ {x' : Register R F} {t' : Tables F} (calls : List (Call F)) (i : ℕ) where
-    pub ran_more : Ran g x t (take i calls) rs x' t' → i < length calls → {c : Call F} → c ≡ get_or calls i c → {r : Reply F}
-        {x'' : Register R F} {t'' : Tables F} → Plays g c x' t' r x'' t'' → {l : List (Reply F)} → l ≡ rs ++ r ∷ []
-        → Ran g x t (take (i + 1) calls) l x'' t''
+  module _ {x' : Register R F g} {t' : Tables F} (calls : List (Call F)) (i : ℕ) where
+    pub ran_more : Ran x t (take i calls) rs x' t' → i < length calls → {c : Call F} → c ≡ get_or calls i c → {r : Answer F}
+        {x'' : Register R F g} {t'' : Tables F} → Plays c x' t' r x'' t'' → {l : List (Answer F)} → l ≡ rs ++ r ∷ []
+        → Ran x t (take (i + 1) calls) l x'' t''
     ran_more ran low {c} is {r} {x''} {t''} plays {l} e =
         let more : take (i + 1) calls ≡ take i calls ++ c ∷ []
         = take_more calls i c low ∙ ap (λ (d : Call F). take i calls ++ d ∷ []) (sym is) in
-        subst (λ (k : List (Reply F)). Ran g x t (take (i + 1) calls) k x'' t'') (sym e)
-        (subst (λ (k : List (Call F)). Ran g x t k (rs ++ r ∷ []) x'' t'') (sym more) (then ran c r x'' t'' plays))
+        subst (λ (k : List (Answer F)). Ran x t (take (i + 1) calls) k x'' t'') (sym e)
+        (subst (λ (k : List (Call F)). Ran x t k (rs ++ r ∷ []) x'' t'') (sym more) (then ran c r x'' t'' plays))
 
-    pub ran_all : Ran g x t (take i calls) rs x' t' → length calls ≤ i → Runs g calls x t rs x' t'
+    pub ran_all : Ran x t (take i calls) rs x' t' → length calls ≤ i → Runs calls x t rs x' t'
     ran_all ran all =
-        runs g x t calls rs x' t' (subst (λ (k : List (Call F)). Ran g x t k rs x' t') (take_all i calls all) ran)
+        runs x t calls rs x' t' (subst (λ (k : List (Call F)). Ran x t k rs x' t') (take_all i calls all) ran)

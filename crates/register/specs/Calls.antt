@@ -1,31 +1,28 @@
 -- What a call on the register comes to with these tables, and what it carries: the claims over every history that led there.
-use Rattle.std.specs.Prelude.{◌≡◌, ℕ, ◌*◌, Bool, true, cond, ◌&&◌, [], ◌∷◌, ◌++◌, length, ◌==◌}
+use Rattle.std.specs.Prelude.{◌≡◌, Bool, true, cond, ◌&&◌, [], ◌∷◌, ◌++◌, length, ◌==◌}
 use Rattle.quorum.specs.Sets.{Rule}
 use Rattle.quorum.specs.Laws.{Lawful}
+use Rattle.quorum.specs.Meaning.{rule_of}
 use Rattle.quorum.specs.declared.system.QuorumSystem.{Ghosts}
 use Rattle.model.specs.declared.calls.Call.{Call}
-use Rattle.model.specs.declared.answers.Reply.{Reply}
+use Rattle.model.specs.Answers.{Answer}
 use Rattle.model.specs.declared.answers.Refusal.{Refusal}
 use Rattle.model.specs.Sound.{sound}
 use Rattle.model.specs.Steps.{Outcome, declined, step}
-use Rattle.model.specs.History.{History, Event, event, Grows}
+use Rattle.model.specs.History.{History}
 use Rattle.model.specs.Claims.{Served}
 use Rattle.tables.specs.declared.numbers.Numbers.{Numbers}
 use Rattle.register.specs.declared.service.Register.{Register}
-use Rattle.tables.specs.View.{Tables, view, Fitting, rule_for}
+use Rattle.tables.specs.View.{Tables, view, Fitting}
 use Rattle.steps.specs.Doing.{Does}
 use Rattle.register.specs.Histories.{Grown, called}
+use Rattle.register.specs.Commissioning.{parties_fit}
 
--- Whether tables of these lengths are those that the register was commissioned with.
-abbrev pub lengths_fit : Numbers → ℕ → ℕ → ℕ → ℕ → ℕ → Bool
-lengths_fit n replicas readers marks messages journal =
-    (replicas == n.replicas) && readers == n.readers && marks == n.replicas * n.readers
-    && messages == n.message_room && journal == n.journal_room
-
+-- Whether the tables have the lengths that the register was commissioned with.
 abbrev pub fits : {F : Type 0} → Numbers → Tables F → Bool
 fits n t =
-    lengths_fit n (length t.replicas) (length t.readers) (length t.marks) (length t.messages)
-    (length t.journal)
+    parties_fit n.replicas n.readers (length t.replicas) (length t.readers) (length t.marks)
+    && length t.messages == n.message_room && length t.journal == n.journal_room
 
 -- What a call comes to: the model's step, or a refusal where a table has another length.
 unfoldable pub answered : {F : Type 0} → Rule → F → Numbers → Tables F → Call F → Outcome F
@@ -34,7 +31,7 @@ answered rule start n t c =
 
 -- The answer and every place of the tables are what the call comes to; each history that led to the register becomes longer
 -- by the call's event, and under a lawful rule the longer one is served.
-pub record CarriesAnswered {F : Type 0} (rule : Rule) (start : F) (c : Call F) (n : Numbers) (t : Tables F) (r : Reply F)
+pub record CarriesAnswered {F : Type 0} (rule : Rule) (start : F) (c : Call F) (n : Numbers) (t : Tables F) (r : Answer F)
     (n' : Numbers) (t' : Tables F) : Type 0 where
   pub does : Does start (answered rule start n t c) n t r n' t'
   pub grows : (h : History F) → Grown rule start h n t → Grown rule start (h ++ called rule start n t c ∷ []) n' t'
@@ -43,16 +40,16 @@ pub record CarriesAnswered {F : Type 0} (rule : Rule) (start : F) (c : Call F) (
 
 -- THE REGISTER
 
--- What its rule means: the rule's own families, over the replicas that it was commissioned for.
-abbrev pub meaning : {R F : Type 0} → Ghosts R → Register R F → Rule
-meaning g x = rule_for g x.rule x.numbers.replicas
+-- What its rule means.
+abbrev pub meaning : {R F : Type 0} {g : Ghosts R} → Register R F g → Rule
+meaning {g = g} x = rule_of g x.rule
 
 -- A call on the register: it keeps its rule and its starting figure, and carries the claims.
-pub record Plays {R F : Type 0} (g : Ghosts R) (c : Call F) (x : Register R F) (t : Tables F) (r : Reply F)
-    (x' : Register R F) (t' : Tables F) : Type 0 where
+pub record Plays {R F : Type 0} {g : Ghosts R} (c : Call F) (x : Register R F g) (t : Tables F) (r : Answer F)
+    (x' : Register R F g) (t' : Tables F) : Type 0 where
   pub rule : x'.rule ≡ x.rule
   pub start : x'.start ≡ x.start
-  pub carries : CarriesAnswered (meaning g x) x.start c x.numbers t r x'.numbers t'
+  pub carries : CarriesAnswered (meaning x) x.start c x.numbers t r x'.numbers t'
 
 -- Tables that no call is declined for.
 pub record Checked {F : Type 0} (rule : Rule) (start : F) (n : Numbers) (t : Tables F) : Type 0 where

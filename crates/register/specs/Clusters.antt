@@ -1,58 +1,72 @@
 -- A register with its tables, as one state of the model, and what a call on it carries.
-use Rattle.std.specs.Prelude.{◌≡◌, ℕ, true, false, [], ◌∷◌, ◌++◌, Ok, Err, vec_items, Result}
+use Rattle.std.specs.Prelude.{◌≡◌, ℕ, ◌*◌, Bool, true, false, [], ◌∷◌, ◌++◌, replicate, Ok, Err, vec_items, vec_len, Result}
 use Rattle.quorum.specs.Sets.{Rule}
 use Rattle.quorum.specs.Laws.{Lawful}
 use Rattle.quorum.specs.declared.system.QuorumSystem.{Ghosts}
 use Rattle.model.specs.declared.calls.Call.{Call}
-use Rattle.model.specs.declared.answers.Reply.{Reply}
-use Rattle.model.specs.State.{State, fresh}
+use Rattle.model.specs.Answers.{Answer}
+use Rattle.model.specs.State.{State, fresh, new_replica, new_reader, new_mark}
 use Rattle.model.specs.Steps.{step}
 use Rattle.model.specs.History.{History, event, Grows}
 use Rattle.model.specs.Claims.{Served}
 use Rattle.register.specs.declared.service.Draft.{Draft}
+use Rattle.register.specs.declared.service.cluster.OwnedTables.{OwnedTables}
 use Rattle.register.specs.declared.service.cluster.Cluster.{Cluster}
 use Rattle.register.specs.declared.service.cluster.Unfounded.{Unfounded}
-use Rattle.tables.specs.View.{Tables, tables, view}
-use Rattle.steps.specs.Queueing.{window}
+use Rattle.register.specs.declared.service.cluster.UnfoundedCause.{UnfoundedCause}
+use Rattle.tables.specs.View.{Tables, view}
+use Rattle.register.specs.Owned.{owned}
 use Rattle.register.specs.Calls.{meaning}
 use Rattle.register.specs.Service.{drafted, rooms_fit}
 
-abbrev pub cluster_tables : {R F : Type 0} → Cluster R F → Tables F
-cluster_tables x =
-    tables (vec_items x.replicas) (vec_items x.readers) (vec_items x.marks)
-    (window x.head x.register.numbers.message_room (vec_items x.queue)) (vec_items x.journal)
+abbrev pub cluster_tables : {R F : Type 0} {g : Ghosts R} → Cluster R F g → Tables F
+cluster_tables x = owned x.register.numbers.message_room x.tables
 
-abbrev pub cluster_state : {R F : Type 0} → Cluster R F → State F
+abbrev pub cluster_state : {R F : Type 0} {g : Ghosts R} → Cluster R F g → State F
 cluster_state x = view x.register.start x.register.numbers (cluster_tables x)
 
-abbrev pub cluster_rule : {R F : Type 0} → Ghosts R → Cluster R F → Rule
-cluster_rule g x = meaning g x.register
+abbrev pub cluster_rule : {R F : Type 0} {g : Ghosts R} → Cluster R F g → Rule
+cluster_rule x = meaning x.register
+
+-- New tables for a draft, with room for so many messages, twice, and for so many lines.
+pub record Made {R F : Type 0} {g : Ghosts R} (d : Draft R F g) (message_room journal_room : ℕ) (o : OwnedTables F)
+    : Type 0 where
+  pub replicas : vec_items o.replicas ≡ replicate (drafted d).size (new_replica d.start)
+  pub readers : vec_items o.readers ≡ replicate d.readers (new_reader d.start)
+  pub marks : vec_items o.marks ≡ replicate ((drafted d).size * d.readers) new_mark
+  pub queue : vec_len o.queue ≡ 2 * message_room
+  pub head : o.head ≡ 0
+  pub journal : vec_len o.journal ≡ journal_room
 
 -- A newly founded cluster of a draft, with so much room. The empty history led there, and is served.
-pub record NewCluster {R F : Type 0} (g : Ghosts R) (d : Draft R F) (message_room journal_room : ℕ) (x : Cluster R F)
+pub record NewCluster {R F : Type 0} {g : Ghosts R} (d : Draft R F g) (message_room journal_room : ℕ) (x : Cluster R F g)
     : Type 0 where
-  pub rule : cluster_rule g x ≡ drafted g d
+  pub rule : cluster_rule x ≡ drafted d
   pub start : x.register.start ≡ d.start
-  pub state : cluster_state x ≡ fresh (drafted g d) d.start d.readers message_room journal_room
-  pub begins : Grows (cluster_rule g x) x.register.start [] (cluster_state x)
-  pub serves : Lawful (cluster_rule g x) → Served (cluster_rule g x) x.register.start [] (cluster_state x)
+  pub state : cluster_state x ≡ fresh (drafted d) d.start d.readers message_room journal_room
+  pub begins : Grows (cluster_rule x) x.register.start [] (cluster_state x)
+  pub serves : Lawful (cluster_rule x) → Served (cluster_rule x) x.register.start [] (cluster_state x)
+
+-- Whether the rooms were within their limits where a draft was not founded.
+abbrev pub within_limits : UnfoundedCause → Bool
+within_limits UnfoundedCause.Rooms = false
+within_limits (UnfoundedCause.Memory e) = true
 
 -- What founding comes to. The draft comes back as it was.
-abbrev pub Founded : {R F : Type 0} → Ghosts R → Draft R F → ℕ → ℕ → Result (Cluster R F) (Unfounded R F) → Type 0
-Founded g d message_room journal_room (Ok x) =
-    (rooms_fit d message_room journal_room ≡ true) × NewCluster g d message_room journal_room x
-Founded g d message_room journal_room (Err (Unfounded.Rooms back)) =
-    (rooms_fit d message_room journal_room ≡ false) × (back ≡ d)
-Founded g d message_room journal_room (Err (Unfounded.Memory back)) =
-    (rooms_fit d message_room journal_room ≡ true) × (back ≡ d)
+abbrev pub Founded : {R F : Type 0} {g : Ghosts R} → Draft R F g → ℕ → ℕ → Result (Cluster R F g) (Unfounded R F g)
+    → Type 0
+Founded d message_room journal_room (Ok x) =
+    (rooms_fit d message_room journal_room ≡ true) × NewCluster d message_room journal_room x
+Founded d message_room journal_room (Err u) =
+    (rooms_fit d message_room journal_room ≡ within_limits u.cause) × (u.draft ≡ d)
 
 -- A call is the model's step: its answer, and what it leaves. Each history that led to the register becomes longer by its
 -- event, and under a lawful rule the longer one is served.
-pub record Steps {R F : Type 0} (g : Ghosts R) (c : Call F) (x : Cluster R F) (r : Reply F) (x' : Cluster R F) : Type 0 where
-  pub rule : cluster_rule g x' ≡ cluster_rule g x
+pub record Steps {R F : Type 0} {g : Ghosts R} (c : Call F) (x : Cluster R F g) (r : Answer F) (x' : Cluster R F g) : Type 0 where
+  pub rule : cluster_rule x' ≡ cluster_rule x
   pub start : x'.register.start ≡ x.register.start
-  pub answer : r ≡ (step (cluster_rule g x) (cluster_state x) c).reply
-  pub state : cluster_state x' ≡ (step (cluster_rule g x) (cluster_state x) c).next
-  pub serves : (h : History F) → Grows (cluster_rule g x) x.register.start h (cluster_state x) → Lawful (cluster_rule g x)
-      → Served (cluster_rule g x) x.register.start (h ++ event c (step (cluster_rule g x) (cluster_state x) c) ∷ [])
+  pub answer : r ≡ (step (cluster_rule x) (cluster_state x) c).reply
+  pub state : cluster_state x' ≡ (step (cluster_rule x) (cluster_state x) c).next
+  pub serves : (h : History F) → Grows (cluster_rule x) x.register.start h (cluster_state x) → Lawful (cluster_rule x)
+      → Served (cluster_rule x) x.register.start (h ++ event c (step (cluster_rule x) (cluster_state x) c) ∷ [])
       (cluster_state x')

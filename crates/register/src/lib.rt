@@ -4,10 +4,9 @@
 //! claims over every history that led to it. `Cluster` owns its tables, so that it need not check them.
 #![tactic(auto)]
 
-mod filling;
 mod service;
 mod tally;
 
-pub use service::cluster::{Cluster, Unfounded};
+pub use service::cluster::{Cluster, Unfounded, UnfoundedCause};
 pub use service::{Draft, Register, Uncommissioned};
 pub use tally::Tally;

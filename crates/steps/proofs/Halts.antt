@@ -116,11 +116,3 @@ module _ {F : Type 0} (start : F) (rule : Rule) (n : Numbers) (t : Tables F) (ke
       → Halts p (result_and r (Ok Reply.Done)) n' t'
   halts p (Ok u) n' t' v e x = rw (e.0, e.1) (stops p v)
   halts p (Err why) n' t' v e x = rw (x.0, x.1) (declined_as p why v)
-
-pub on_ok : {T E : Type 0} {A B : Type 0} (r : Result T E) → (A → B) → OnOk r A → OnOk r B
-on_ok (Ok x) f a = f a
-on_ok (Err e) f a = a
-
-pub on_err : {T E : Type 0} {A B : Type 0} (r : Result T E) → (A → B) → OnErr r A → OnErr r B
-on_err (Ok x) f a = a
-on_err (Err e) f a = f a

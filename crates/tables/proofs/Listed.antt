@@ -1,5 +1,5 @@
 -- The tests of all items of a table, in the library's words.
-use Rattle.std.proofs.Common.{◌≡◌, ℕ, ◌+◌, Bool, ◌&&◌, List, [], ◌∷◌, sym, refl, ap, ◌∙◌, add-one}
+use Rattle.std.proofs.Common.{◌≡◌, ℕ, suc, ◌+◌, Bool, ◌&&◌, List, [], ◌∷◌, sym, refl, ap, ◌∙◌, add-one}
 use Rattle.std.specs.List.{list_all, enumerate_from}
 use Rattle.model.specs.Sound.{each, each_from}
 
@@ -14,3 +14,9 @@ unfolding each_from
 each_from_listed test n [] = refl
 each_from_listed test n (x ∷ xs) =
     ap (λ k. test n x && each_from k test xs) (sym (add-one n)) ∙ ap (λ b. test n x && b) (each_from_listed test (n + 1) xs)
+
+-- A test that does not look at the place is one that may.
+pub each_placed : {A : Type 0} (test : A → Bool) (n : ℕ) (xs : List A) → each test xs ≡ each_from n (λ k. test) xs
+unfolding each each_from
+each_placed test n [] = refl
+each_placed test n (x ∷ xs) = ap (λ b. test x && b) (each_placed test (suc n) xs)

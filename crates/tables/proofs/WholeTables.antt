@@ -1,7 +1,7 @@
 -- Soundness goes by the size of the rule, the readers and the lines alone, and one pass over each table tests it.
-use Rattle.std.proofs.Common.{◌≡◌, ℕ, Bool, true, false, ◌&&◌, List, [], ◌∷◌, sym, refl, ap, ◌∙◌, ap₂}
+use Rattle.std.proofs.Common.{◌≡◌, ℕ, suc, Bool, true, false, ◌&&◌, List, [], ◌∷◌, sym, refl, ap, ◌∙◌, ap₂}
 use mathlib.Core.Path.{fun_ext}
-use mathlib.Core.Bool.{and-true, and-false}
+use mathlib.Core.Bool.{and_assoc, and-true, and-false}
 use Rattle.quorum.specs.Sets.{Rule}
 use Rattle.model.specs.declared.parties.Party.{Party}
 use Rattle.model.specs.declared.messages.MessageKind.{MessageKind}
@@ -14,7 +14,8 @@ use Rattle.model.specs.State.{State, line}
 use Rattle.model.specs.Sound.{each, each_from, reader_within, mark_within, sets_within, a_writer, a_reader, a_replica}
 use Rattle.model.specs.Sound.{suits, in_journal, addressed, messages_addressed, serves, owned, recorded, messages_recorded}
 use Rattle.model.specs.Sound.{placed, readers_placed, sound}
-use Rattle.tables.specs.Judged.{of_size, judged, message_sound}
+use Rattle.tables.specs.Judged.{of_size, judged, reader_sound, message_sound}
+use Rattle.tables.proofs.Listed.{each_placed}
 
 -- TWO TESTS OF EACH ITEM are one
 
@@ -23,18 +24,29 @@ and_swapped false b c d = refl
 and_swapped true false c d = sym (and-false c)
 and_swapped true true c d = refl
 
-each_both : {A : Type 0} (f g : A → Bool) (xs : List A) → (each f xs && each g xs) ≡ each (λ x. f x && g x) xs
-unfolding each
-each_both f g [] = refl
-each_both f g (x ∷ xs) =
-    and_swapped (f x) (each f xs) (g x) (each g xs) ∙ ap (λ b. (f x && g x) && b) (each_both f g xs)
+each_from_both : {A : Type 0} (f g : ℕ → A → Bool) (n : ℕ) (xs : List A)
+    → (each_from n f xs && each_from n g xs) ≡ each_from n (λ k x. f k x && g k x) xs
+unfolding each_from
+each_from_both f g n [] = refl
+each_from_both f g n (x ∷ xs) =
+    and_swapped (f n x) (each_from (suc n) f xs) (g n x) (each_from (suc n) g xs)
+    ∙ ap (λ b. (f n x && g n x) && b) (each_from_both f g (suc n) xs)
 
--- sets of readers and of marks, messages addressed, messages recorded, readers placed: first of the parties, then of the
--- messages
-parties_first : (k a b p : Bool) → (((k && a) && b) && p) ≡ ((k && p) && (a && b))
-parties_first false a b p = refl
-parties_first true a b true = and-true (a && b)
-parties_first true a b false = and-false (a && b)
+each_both : {A : Type 0} (f g : A → Bool) (xs : List A) → (each f xs && each g xs) ≡ each (λ x. f x && g x) xs
+each_both f g xs =
+    ap₂ (λ a b. a && b) (each_placed f 0 xs) (each_placed g 0 xs) ∙ each_from_both (λ k. f) (λ k. g) 0 xs
+    ∙ sym (each_placed (λ x. f x && g x) 0 xs)
+
+each_and_from : {A : Type 0} (f : A → Bool) (g : ℕ → A → Bool) (xs : List A)
+    → (each f xs && each_from 0 g xs) ≡ each_from 0 (λ k x. f x && g k x) xs
+each_and_from f g xs =
+    ap (λ b. b && each_from 0 g xs) (each_placed f 0 xs) ∙ each_from_both (λ k. f) g 0 xs
+
+-- sets of readers and of marks, messages addressed, messages recorded, readers placed: by table
+by_table : (r k a b p : Bool) → ((((r && k) && a) && b) && p) ≡ (((r && p) && k) && (a && b))
+by_table false k a b p = refl
+by_table true k a b true = and-true ((k && a) && b) ∙ and_assoc k a b
+by_table true k a b false = and-false ((k && a) && b)
 
 -- WHAT A MESSAGE is judged by
 
@@ -77,14 +89,12 @@ module _ {F : Type 0} (rule : Rule) (s : State F) where
       ap₂ (λ a b. (a && in_journal s m.operation) && (serves m.kind o.kind && b))
       (suits_parts m.kind m.sender m.receiver) (owned_parts o.kind o.owner)
 
--- ALL OF IT, under a rule of this size: one test of each mark and each message, and two of each reader
+-- ALL OF IT, under a rule of this size: one test of each reader and each mark, and one of each message
 
 module _ {F : Type 0} (size : ℕ) (start : F) (readers : List (Reader F)) where
-  abbrev all_sets : List RelayMark → Bool
-  all_sets marks = each (reader_within (of_size size)) readers && each (mark_within (of_size size)) marks
-
   abbrev pub all_parties : List RelayMark → List (Operation F) → Bool
-  all_parties marks lines = all_sets marks && each_from 0 (placed (judged start readers lines)) readers
+  all_parties marks lines =
+      each_from 0 (reader_sound (of_size size) (judged start readers lines)) readers && each (mark_within (of_size size)) marks
 
   abbrev pub all_messages : List (Operation F) → List (Message F) → Bool
   all_messages lines messages = each (message_sound (of_size size) (judged start readers lines)) messages
@@ -96,9 +106,11 @@ sound_by_table : {F : Type 0} (rule : Rule) (s : State F)
     → sound rule s ≡ all_tables rule.size s.start s.readers s.marks s.journal s.messages
 unfolding sound sets_within messages_addressed messages_recorded readers_placed
 sound_by_table rule s =
-    parties_first (all_sets rule.size s.start s.readers s.marks) (each (addressed rule s) s.messages)
-    (each (λ m. recorded s m.kind (line s m.operation)) s.messages) (each_from 0 (placed s) s.readers)
-    ∙ ap (λ b. all_parties rule.size s.start s.readers s.marks s.journal && b)
+    by_table (each (reader_within rule) s.readers) (each (mark_within rule) s.marks)
+    (each (addressed rule s) s.messages) (each (λ m. recorded s m.kind (line s m.operation)) s.messages)
+    (each_from 0 (placed s) s.readers)
+    ∙ ap₂ (λ a b. (a && each (mark_within rule) s.marks) && b)
+    (each_and_from (reader_within rule) (placed s) s.readers)
     (each_both (addressed rule s) (λ m. recorded s m.kind (line s m.operation)) s.messages
     ∙ ap (λ test. each test s.messages) (fun_ext (message_parts rule s)))
 

@@ -5,7 +5,7 @@ use Rattle.model.specs.declared.reader.Reader.{Reader}
 use Rattle.model.specs.declared.messages.Message.{Message}
 use Rattle.model.specs.declared.journal.Operation.{Operation}
 use Rattle.model.specs.State.{State, new_writer, line}
-use Rattle.model.specs.Sound.{addressed, recorded}
+use Rattle.model.specs.Sound.{reader_within, addressed, recorded, placed}
 
 -- A rule that has this size, and no set that ends a wait or keeps a figure.
 abbrev pub of_size : ℕ → Rule
@@ -25,6 +25,10 @@ judged start readers lines = record {
   journal = lines;
   finished = 0;
 }
+
+-- A reader's sets name replicas, and it is idle or has a read of its own under way.
+abbrev pub reader_sound : {F : Type 0} → Rule → State F → ℕ → Reader F → Bool
+reader_sound rule s r d = reader_within rule d && placed s r d
 
 -- A message is addressed, and its line is of an operation that it can serve.
 abbrev pub message_sound : {F : Type 0} → Rule → State F → Message F → Bool

@@ -1,14 +1,13 @@
-//! Whether lent tables are sound, that is, may be those of a register in service: each table is gone through once, but the
-//! readers twice.
+//! Whether lent tables are sound, that is, may be those of a register in service: one pass over each of them.
 ghost use Rattle.std.specs.Prelude.{◌≡◌, ◌≤◌, ◌&&◌, List, length, take};
 ghost use Rattle.quorum.specs.Sets.{Rule};
 ghost use Rattle.model.specs.declared.replica.Replica.{Replica as ReplicaOf};
-ghost use Rattle.model.specs.Sound.{each, each_from, reader_within, mark_within, placed, sound as is_sound};
-ghost use Rattle.tables.specs.Judged.{of_size, judged, message_sound};
+ghost use Rattle.model.specs.Sound.{each, each_from, mark_within, sound as is_sound};
+ghost use Rattle.tables.specs.Judged.{of_size, judged, reader_sound, message_sound};
 ghost use Rattle.tables.specs.View.{tables, view};
 
-use self::records::{message_sound, placed};
-use self::sets::{marks_within, readers_within};
+use self::records::{message_sound, reader_sound};
+use self::sets::mark_within;
 use crate::numbers::Numbers;
 use model::{Message, Operation, Reader, RelayMark};
 
@@ -26,7 +25,6 @@ pub fn tables_sound<F: Copy>(
     messages: &[Message<F>],
     journal: &[Operation<F>],
 ) -> bool
-    requires replicas { numbers.now.replicas ≤ 24 }
     requires waiting { numbers.now.waiting ≤ length messages.now }
     requires lines { numbers.now.lines ≤ length journal.now }
     ensures { (rule : Rule) → rule.size ≡ numbers.now.replicas
@@ -55,23 +53,27 @@ fn parties_sound<F: Copy>(
     marks: &[RelayMark],
     lines: &[Operation<F>],
 ) -> bool
-    requires { size ≤ 24 }
     ensures { (start : F) →
-        result ≡ ((each (reader_within (of_size size)) readers.now && each (mark_within (of_size size)) marks.now)
-        && each_from 0 (placed (judged start readers.now lines.now)) readers.now) }
+        result ≡ (each_from 0 (reader_sound (of_size size) (judged start readers.now lines.now))
+        readers.now && each (mark_within (of_size size)) marks.now) }
 {
-    readers_within(size, readers) && marks_within(size, marks) && readers_placed(readers, lines)
+    readers_sound(size, readers, lines) && marks_sound(size, marks)
 }
 
-/// Whether every reader is idle or has a read of its own under way.
-fn readers_placed<F: Copy>(readers: &[Reader<F>], lines: &[Operation<F>]) -> bool
+/// Whether every reader is sound.
+fn readers_sound<F: Copy>(size: u32, readers: &[Reader<F>], lines: &[Operation<F>]) -> bool
     ensures { (start : F) →
-        result ≡ each_from 0 (placed (judged start readers.now lines.now)) readers.now }
+        result ≡ each_from 0 (reader_sound (of_size size) (judged start readers.now lines.now))
+        readers.now }
 {
-    readers
-        .iter()
-        .enumerate()
-        .all(|(number, reader)| placed(lines, number, reader))
+    readers.iter().enumerate().all(|(number, reader)| reader_sound(size, lines, number, reader))
+}
+
+/// Whether the sets of all marks name replicas only.
+fn marks_sound(size: u32, marks: &[RelayMark]) -> bool
+    ensures { result ≡ each (mark_within (of_size size)) marks.now }
+{
+    marks.iter().all(|mark| mark_within(size, mark))
 }
 
 /// Whether every waiting message is sound.

@@ -1,9 +1,10 @@
 -- How tabs part a text into fields.
-use Rattle.std.proofs.Common.{◌≡◌, ℕ, zero, suc, ◌+◌, ◌<◌, ◌≤◌, true, false, cond, eqb, List, [], ◌∷◌, ◌++◌, length, get_or, take, drop, sym, refl, ap, ◌∙◌, add-one, arith, drop-cons, eq-eqb, ne_eqb}
+use Rattle.std.proofs.Common.{◌≡◌, ℕ, zero, suc, ◌<◌, ◌≤◌, List, [], ◌∷◌, ◌++◌, length, get_or, take, drop, sym, refl, ap, ◌∙◌, arith, drop-cons, eq-eqb, ne_eqb}
 use Rattle.std.proofs.lemmas.List.{take_all, take-append-drop}
-use Rattle.text.specs.Fields.{fields, onto}
+use Rattle.std.specs.List.{onto_first}
+use Rattle.text.specs.Fields.{fields}
 
-pub fields_plain : (c : ℕ) (cs : List ℕ) → (c ≡ 9 → ⊥) → fields (c ∷ cs) ≡ onto c (fields cs)
+pub fields_plain : (c : ℕ) (cs : List ℕ) → (c ≡ 9 → ⊥) → fields (c ∷ cs) ≡ onto_first c (fields cs)
 fields_plain c cs h = rw (ne_eqb c 9 h)
 
 pub fields_tab : (c : ℕ) (cs : List ℕ) → c ≡ 9 → fields (c ∷ cs) ≡ [] ∷ fields cs
@@ -17,12 +18,12 @@ Tabless (c ∷ cs) = (c ≡ 9 → ⊥) × Tabless cs
 -- a text without a tab, a tab and what follows it
 pub fields_then : (a b : List ℕ) → Tabless a → fields (a ++ (9 ∷ b)) ≡ a ∷ fields b
 fields_then [] b t = refl
-fields_then (c ∷ cs) b t = fields_plain c (cs ++ (9 ∷ b)) t.0 ∙ ap (onto c) (fields_then cs b t.1)
+fields_then (c ∷ cs) b t = fields_plain c (cs ++ (9 ∷ b)) t.0 ∙ ap (onto_first c) (fields_then cs b t.1)
 
 -- a text without a tab is its one field
 pub fields_last : (a : List ℕ) → Tabless a → fields a ≡ a ∷ []
 fields_last [] t = refl
-fields_last (c ∷ cs) t = fields_plain c cs t.0 ∙ ap (onto c) (fields_last cs t.1)
+fields_last (c ∷ cs) t = fields_plain c cs t.0 ∙ ap (onto_first c) (fields_last cs t.1)
 
 -- no tab stands below an index
 abbrev pub TablessTo : List ℕ → ℕ → Type 0
@@ -44,36 +45,3 @@ first_field l n b h e =
     let rest : 9 ∷ drop (suc n) l ≡ drop n l = ap (λ c. c ∷ drop (suc n) l) (sym e) ∙ sym (drop-cons l n 0 h) in
     let whole : take n l ++ (9 ∷ drop (suc n) l) ≡ l = ap (λ x. take n l ++ x) rest ∙ take-append-drop n l in
     ap fields (sym whole) ∙ fields_then (take n l) (drop (suc n) l) (tabless_take l n b)
-
-length_onto : (c : ℕ) (fs : List (List ℕ)) → 0 < length fs → length (onto c fs) ≡ length fs
-length_onto c [] h = absurd (omega arith)
-length_onto c (f ∷ fs) h = refl
-
-onto_some : (c : ℕ) (fs : List (List ℕ)) → 0 < length (onto c fs)
-onto_some c [] = omega arith
-onto_some c (f ∷ fs) = omega arith
-
-pub fields_some : (l : List ℕ) → 0 < length (fields l)
-fields_some [] = omega arith
-fields_some (c ∷ cs) =
-    elim (eqb c 9) as (λ t. 0 < length (cond t ([] ∷ fields cs) (onto c (fields cs)))) [
-      | true ↦ omega arith
-      | false ↦ onto_some c (fields cs)
-    ]
-
--- a tab begins one field more
-pub count_at : (l : List ℕ) (i : ℕ) → i < length l → get_or l i 0 ≡ 9
-    → length (fields (drop i l)) ≡ length (fields (drop (i + 1) l)) + 1
-count_at l i h e =
-    rw (add-one i)
-    (ap (λ x. length (fields x)) (drop-cons l i 0 h)
-    ∙ ap length (fields_tab (get_or l i 0) (drop (suc i) l) e)
-    ∙ omega arith)
-
--- any other byte begins none
-pub count_not : (l : List ℕ) (i : ℕ) → i < length l → (get_or l i 0 ≡ 9 → ⊥)
-    → length (fields (drop i l)) ≡ length (fields (drop (i + 1) l))
-count_not l i h e =
-    rw (add-one i)
-    (ap (λ x. length (fields x)) (drop-cons l i 0 h) ∙ ap length (fields_plain (get_or l i 0) (drop (suc i) l) e)
-    ∙ length_onto (get_or l i 0) (fields (drop (suc i) l)) (fields_some (drop (suc i) l)))

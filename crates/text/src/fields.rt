@@ -3,9 +3,8 @@ ghost use Rattle.std.specs.Str.{bytes_eq};
 ghost use Rattle.text.specs.Fields.{fields, field_at, pending};
 ghost use Rattle.text.specs.Cursors.{ahead};
 
-use crate::find::find_byte;
-
 /// The fields of a line, one by one from the left. Tabs part them.
+// Not an `Iterator`: a missing field reads as an empty one, so that readers of a line take fields with no test.
 #[derive(Drop)]
 pub struct FieldCursor<'a> {
     // the fields still to come with the tabs between them; `None` behind the last field
@@ -41,11 +40,10 @@ impl<'a> FieldCursor<'a> {
     pub fn peek(&self) -> &'a [u8]
         ensures { result.now ≡ field_at (ahead self.now) 0 }
     {
-        let Some(text) = self.rest else {
-            return b"";
-        };
-        let (field, _) = cut(text);
-        field
+        match self.rest {
+            Some(text) => cut(text).0,
+            None => b"",
+        }
     }
 
     /// The next field; an empty one where none is left.
@@ -66,36 +64,22 @@ impl<'a> FieldCursor<'a> {
 pub fn is_word(field: &[u8], word: &str) -> bool
     ensures { result ≡ bytes_eq field.now word.now }
 {
-    same_bytes(field, word.as_bytes())
-}
-
-// Whether two texts have the same bytes.
-fn same_bytes(one: &[u8], other: &[u8]) -> bool
-    ensures { result ≡ bytes_eq one.now other.now }
-{
-    one == other
+    field == word.as_bytes()
 }
 
 // The first field of a text, and what follows its tab.
 fn cut(text: &[u8]) -> (&[u8], Option<&[u8]>)
     ensures { fields text.now ≡ result.0.now ∷ pending result.1 }
 {
-    let end = find_byte(text, b'\t');
-    if end == text.len() {
-        return (text, None);
+    match text.iter().position(|b| *b == b'\t') {
+        Some(end) => (&text[..end], Some(&text[end + 1..])),
+        None => (text, None),
     }
-    (&text[0..end], Some(&text[end + 1..]))
 }
 
 // How many fields a text has.
 fn field_count(text: &[u8]) -> usize
     ensures { result ≡ length (fields text.now) }
 {
-    let mut n: usize = 1;
-    for b in text {
-        if *b == b'\t' {
-            n += 1;
-        }
-    }
-    n
+    text.iter().filter(|b| **b == b'\t').count() + 1
 }

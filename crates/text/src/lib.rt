@@ -4,7 +4,6 @@
 #![tactic(auto)]
 
 mod fields;
-mod find;
 mod lines;
 mod numbers;
 mod print;

@@ -1,8 +1,7 @@
-ghost use Rattle.std.specs.Prelude.{◌≡◌, ◌<◌, [], ◌∷◌, length, MatchOption};
+ghost use Rattle.std.specs.Prelude.{◌≡◌, ◌<◌, ◌∷◌, length};
+ghost use Rattle.std.specs.Iterator.{YieldsFirstRef, item_count};
 ghost use Rattle.text.specs.Lines.{lines, plain, is_text};
 ghost use Rattle.text.specs.LineCursors.{lines_ahead};
-
-use crate::find::find_byte;
 
 /// The lines of a text, one by one. Byte 10 ends a line; the last may lack it.
 #[derive(Drop)]
@@ -17,12 +16,17 @@ impl<'a> LineCursor<'a> {
     {
         LineCursor { rest: text }
     }
+}
+
+impl<'a> Iterator for LineCursor<'a> {
+    type Item = &'a [u8];
+
+    ghost next_gives = { YieldsFirstRef lines_ahead };
+
+    ghost remaining = { item_count lines_ahead };
 
     /// The next line without its end, if there is one.
-    pub fn next_line(&mut self) -> Option<&'a [u8]>
-        ensures { MatchOption result (lines_ahead self.old ≡ [])
-            (λ l. lines_ahead self.old ≡ l.now ∷ lines_ahead self.new) }
-    {
+    fn next(&mut self) -> Option<&'a [u8]> {
         let text = self.rest;
         if text.is_empty() {
             return None;
@@ -34,25 +38,18 @@ impl<'a> LineCursor<'a> {
 }
 
 /// Whether a line is text: at most 200 bytes, each a tab or one that prints.
+#[tactic(auto, unfolding(crate::specs::Lines::is_text))]
 pub fn is_text(line: &[u8]) -> bool
     ensures { result ≡ is_text line.now }
 {
-    if line.len() > 200 {
-        return false;
-    }
-    for b in line {
-        if !is_plain(*b) {
-            return false;
-        }
-    }
-    true
+    line.len() <= 200 && line.iter().all(|b| is_plain(*b))
 }
 
 // A tab, or a byte that prints.
 fn is_plain(byte: u8) -> bool
     ensures { result ≡ plain byte }
 {
-    byte == b'\t' || (byte >= b' ' && byte <= b'~')
+    matches!(byte, b'\t' | b' '..=b'~')
 }
 
 // The first line of a text that is not empty, and what follows its end.
@@ -60,9 +57,8 @@ fn cut_line(text: &[u8]) -> (&[u8], &[u8])
     requires { 0 < length text.now }
     ensures { lines text.now ≡ result.0.now ∷ lines result.1.now }
 {
-    let end = find_byte(text, b'\n');
-    if end == text.len() {
-        return (text, &text[end..]);
+    match text.iter().position(|b| *b == b'\n') {
+        Some(end) => (&text[..end], &text[end + 1..]),
+        None => (text, b""),
     }
-    (&text[0..end], &text[end + 1..])
 }

@@ -1,13 +1,13 @@
-ghost use Rattle.std.specs.Prelude.{◌≡◌, ◌<◌, pos, neg_ℤ, IfSome};
-ghost use Rattle.std.specs.Option.{option_map};
+ghost use Rattle.std.specs.Prelude.{◌≡◌, ◌<◌, IfSome};
 ghost use Rattle.text.specs.Numbers.{digit_of, spelled, spelled_signed};
 
 /// The number that a field spells, if it spells one.
+#[tactic(auto, unfolding(crate::specs::Numbers::spelled))]
 pub fn number(field: &[u8]) -> Option<u32>
     ensures value { result ≡ spelled field.now }
     ensures small { IfSome result (λ n. n < 1000000) }
 {
-    if field.len() == 0 || field.len() > 6 {
+    if field.is_empty() || field.len() > 6 {
         return None;
     }
     let mut n = 0;
@@ -22,27 +22,9 @@ pub fn signed_number(field: &[u8]) -> Option<i32>
     ensures { result ≡ spelled_signed field.now }
 {
     match field {
-        [b'-', digits @ ..] => negative(number(digits)),
-        _ => positive(number(field)),
+        [b'-', digits @ ..] => number(digits).map(|n| -(n as i32)),
+        _ => number(field).map(|n| n as i32),
     }
-}
-
-// A number that a field spells as a signed one.
-fn positive(n: Option<u32>) -> Option<i32>
-    requires { IfSome n (λ n. n < 1000000) }
-    ensures { result ≡ option_map pos n }
-{
-    let n = n?;
-    Some(n as i32)
-}
-
-// The number below 0 that is as far from it as one that a field spells.
-fn negative(n: Option<u32>) -> Option<i32>
-    requires { IfSome n (λ n. n < 1000000) }
-    ensures { result ≡ option_map (λ n. neg_ℤ (pos n)) n }
-{
-    let n = n?;
-    Some(-(n as i32))
 }
 
 // The digit that a byte shows, if it is one.
@@ -50,8 +32,5 @@ fn digit(byte: u8) -> Option<u32>
     ensures value { result ≡ digit_of byte }
     ensures small { IfSome result (λ d. d < 10) }
 {
-    if byte < b'0' || byte > b'9' {
-        return None;
-    }
-    Some(u32::from(byte - b'0'))
+    char::from(byte).to_digit(10)
 }

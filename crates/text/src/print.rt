@@ -1,6 +1,8 @@
 ghost use Rattle.std.specs.Prelude.{◌≡◌, ◌+◌, ◌<◌, ◌≤◌, length, decimal};
 ghost use Rattle.std.specs.Fmt.{signed_decimal};
-ghost use Rattle.text.specs.Printing.{Printed, put};
+ghost use Rattle.text.specs.Printing.{Printed};
+
+// A lent buffer and a place in it, and no `String`: a printer uses no heap.
 
 /// Writes bytes at a place, and gives the place after them.
 ///
@@ -9,17 +11,9 @@ pub fn put_bytes(buffer: &mut [u8], at: usize, bytes: &[u8]) -> usize
     requires { at + length bytes.now ≤ length buffer.old }
     ensures { Printed buffer.old at bytes.now buffer.new result }
 {
-    paste(buffer, at, bytes);
-    at + bytes.len()
-}
-
-// Copies bytes to a place of a buffer.
-fn paste(buffer: &mut [u8], at: usize, bytes: &[u8])
-    requires { at + length bytes.now ≤ length buffer.old }
-    ensures { buffer.new ≡ put buffer.old at bytes.now }
-{
     let end = at + bytes.len();
     buffer[at..end].copy_from_slice(bytes);
+    end
 }
 
 /// Writes a number's decimal digits at a place, and gives the place after them. There has to be room, as for bytes.

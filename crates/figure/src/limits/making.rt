@@ -9,6 +9,7 @@ const FARTHEST: u32 = 20_000;
 
 impl<const MAX: u32> UpTo<MAX> {
     /// The number 0, which is within every limit.
+    // No `Default`, which no struct with a ghost field derives.
     pub(crate) fn zero() -> UpTo<MAX>
         ensures { result ≡ up_to_zero MAX }
     {
@@ -16,6 +17,7 @@ impl<const MAX: u32> UpTo<MAX> {
     }
 
     /// The number itself, if it is within the limit.
+    #[tactic(auto, using(crate::specs::Limited::beyond))]
     pub fn new(value: u32) -> Option<UpTo<MAX>>
         ensures { result ≡ up_to MAX value }
     {
@@ -67,6 +69,7 @@ impl Level {
     }
 
     /// The level that a field spells, if it spells one within the range.
+    // One line here and at `UpTo`, over two readers: a trait for both would be longer.
     pub(crate) fn read(field: &[u8]) -> Option<Level>
         ensures { result ≡ level_read field.now }
     {

@@ -1,9 +1,10 @@
-ghost use Rattle.std.specs.Prelude.{◌≡◌, MatchOption};
+ghost use Rattle.std.specs.Prelude.{◌≡◌, MatchResult};
 ghost use Rattle.model.specs.declared.calls.Call.{Call as ModelCall};
 ghost use Rattle.tables.specs.View.{tables};
-ghost use Rattle.register.specs.Calls.{lengths_fit, meaning, Checked, Declines, Plays};
+ghost use Rattle.register.specs.Calls.{fits, meaning, Checked, Declines, Plays};
 
 use super::Register;
+use super::commissioning::parties_fit;
 use model::{
     Call, Message, Operation, Party, ReadKind, Reader, Refusal, RelayMark, Replica, Reply,
 };
@@ -23,16 +24,13 @@ impl<R: QuorumSystem, F: Copy> Register<R, F> {
         messages: &mut [Message<F>],
         journal: &mut [Operation<F>],
         figure: F,
-    ) -> Reply<F>
-        ensures { Plays R.QuorumSystem (ModelCall.Write figure)
+    ) -> Result<Reply<F>, Refusal>
+        ensures { Plays (ModelCall.Write figure)
             self.old (tables replicas.now readers.now marks.now messages.old journal.old)
             result
             self.new (tables replicas.now readers.now marks.now messages.new journal.new) }
     {
-        match self.refusal(replicas, readers, marks, messages, journal) {
-            Some(refusal) => return Reply::Declined(refusal),
-            None => {}
-        }
+        self.check(replicas, readers, marks, messages, journal)?;
         start_write(&mut self.numbers, messages, journal, figure)
     }
 
@@ -46,16 +44,13 @@ impl<R: QuorumSystem, F: Copy> Register<R, F> {
         journal: &mut [Operation<F>],
         reader: u32,
         kind: ReadKind,
-    ) -> Reply<F>
-        ensures { Plays R.QuorumSystem (ModelCall.Read reader kind)
+    ) -> Result<Reply<F>, Refusal>
+        ensures { Plays (ModelCall.Read reader kind)
             self.old (tables replicas.now readers.old marks.now messages.old journal.old)
             result
             self.new (tables replicas.now readers.new marks.now messages.new journal.new) }
     {
-        match self.refusal(replicas, readers, marks, messages, journal) {
-            Some(refusal) => return Reply::Declined(refusal),
-            None => {}
-        }
+        self.check(replicas, readers, marks, messages, journal)?;
         start_read(
             self.start,
             &mut self.numbers,
@@ -76,16 +71,13 @@ impl<R: QuorumSystem, F: Copy> Register<R, F> {
         messages: &mut [Message<F>],
         journal: &mut [Operation<F>],
         place: u32,
-    ) -> Reply<F>
-        ensures { Plays R.QuorumSystem (ModelCall.Deliver place)
+    ) -> Result<Reply<F>, Refusal>
+        ensures { Plays (ModelCall.Deliver place)
             self.old (tables replicas.old readers.old marks.old messages.old journal.old)
             result
             self.new (tables replicas.new readers.new marks.new messages.new journal.new) }
     {
-        match self.refusal(replicas, readers, marks, messages, journal) {
-            Some(refusal) => return Reply::Declined(refusal),
-            None => {}
-        }
+        self.check(replicas, readers, marks, messages, journal)?;
         deliver_message(
             &self.rule,
             self.start,
@@ -108,16 +100,13 @@ impl<R: QuorumSystem, F: Copy> Register<R, F> {
         messages: &mut [Message<F>],
         journal: &[Operation<F>],
         place: u32,
-    ) -> Reply<F>
-        ensures { Plays R.QuorumSystem (ModelCall.Drop place)
+    ) -> Result<Reply<F>, Refusal>
+        ensures { Plays (ModelCall.Drop place)
             self.old (tables replicas.now readers.now marks.now messages.old journal.now)
             result
             self.new (tables replicas.now readers.now marks.now messages.new journal.now) }
     {
-        match self.refusal(replicas, readers, marks, messages, journal) {
-            Some(refusal) => return Reply::Declined(refusal),
-            None => {}
-        }
+        self.check(replicas, readers, marks, messages, journal)?;
         drop_message(&mut self.numbers, messages, place)
     }
 
@@ -130,16 +119,13 @@ impl<R: QuorumSystem, F: Copy> Register<R, F> {
         messages: &mut [Message<F>],
         journal: &[Operation<F>],
         place: u32,
-    ) -> Reply<F>
-        ensures { Plays R.QuorumSystem (ModelCall.Duplicate place)
+    ) -> Result<Reply<F>, Refusal>
+        ensures { Plays (ModelCall.Duplicate place)
             self.old (tables replicas.now readers.now marks.now messages.old journal.now)
             result
             self.new (tables replicas.now readers.now marks.now messages.new journal.now) }
     {
-        match self.refusal(replicas, readers, marks, messages, journal) {
-            Some(refusal) => return Reply::Declined(refusal),
-            None => {}
-        }
+        self.check(replicas, readers, marks, messages, journal)?;
         duplicate_message(&mut self.numbers, messages, place)
     }
 
@@ -152,16 +138,13 @@ impl<R: QuorumSystem, F: Copy> Register<R, F> {
         messages: &[Message<F>],
         journal: &[Operation<F>],
         party: Party,
-    ) -> Reply<F>
-        ensures { Plays R.QuorumSystem (ModelCall.Halt party)
+    ) -> Result<Reply<F>, Refusal>
+        ensures { Plays (ModelCall.Halt party)
             self.old (tables replicas.old readers.old marks.now messages.now journal.now)
             result
             self.new (tables replicas.new readers.new marks.now messages.now journal.now) }
     {
-        match self.refusal(replicas, readers, marks, messages, journal) {
-            Some(refusal) => return Reply::Declined(refusal),
-            None => {}
-        }
+        self.check(replicas, readers, marks, messages, journal)?;
         halt_party(&mut self.numbers, replicas, readers, party)
     }
 
@@ -174,16 +157,13 @@ impl<R: QuorumSystem, F: Copy> Register<R, F> {
         messages: &mut [Message<F>],
         journal: &mut [Operation<F>],
         call: Call<F>,
-    ) -> Reply<F>
-        ensures { Plays R.QuorumSystem call
+    ) -> Result<Reply<F>, Refusal>
+        ensures { Plays call
             self.old (tables replicas.old readers.old marks.old messages.old journal.old)
             result
             self.new (tables replicas.new readers.new marks.new messages.new journal.new) }
     {
-        match self.refusal(replicas, readers, marks, messages, journal) {
-            Some(refusal) => return Reply::Declined(refusal),
-            None => {}
-        }
+        self.check(replicas, readers, marks, messages, journal)?;
         step(
             &self.rule,
             self.start,
@@ -197,50 +177,42 @@ impl<R: QuorumSystem, F: Copy> Register<R, F> {
         )
     }
 
-    // Why every call on these tables is declined, if it is: a table has another length, or they are not sound.
-    fn refusal(
+    // Whether calls may be done on these tables: they have their lengths, and are sound.
+    fn check(
         &self,
         replicas: &[Replica<F>],
         readers: &[Reader<F>],
         marks: &[RelayMark],
         messages: &[Message<F>],
         journal: &[Operation<F>],
-    ) -> Option<Refusal>
-        ensures { MatchOption result
-            (Checked (meaning R.QuorumSystem self.now) self.now.start self.now.numbers (tables replicas.now readers.now marks.now messages.now journal.now))
-            (Declines (meaning R.QuorumSystem self.now) self.now.start self.now.numbers (tables replicas.now readers.now marks.now messages.now journal.now)) }
+    ) -> Result<(), Refusal>
+        ensures { MatchResult result
+            (λ _. Checked (meaning self.now) self.now.start self.now.numbers (tables replicas.now readers.now marks.now messages.now journal.now))
+            (Declines (meaning self.now) self.now.start self.now.numbers (tables replicas.now readers.now marks.now messages.now journal.now)) }
     {
-        if !self.lengths_fit(
-            replicas.len(),
-            readers.len(),
-            marks.len(),
-            messages.len(),
-            journal.len(),
-        ) {
-            return Some(Refusal::TableLength);
+        if !self.lengths_fit(replicas, readers, marks, messages, journal) {
+            return Err(Refusal::TableLength);
         }
         if !tables_sound(&self.numbers, readers, marks, messages, journal) {
-            return Some(Refusal::Unsound);
+            return Err(Refusal::Unsound);
         }
-        None
+        Ok(())
     }
 
-    // Whether tables of these lengths are those that it was commissioned with.
+    // Whether the tables have the lengths that it was commissioned with.
     fn lengths_fit(
         &self,
-        replicas: usize,
-        readers: usize,
-        marks: usize,
-        messages: usize,
-        journal: usize,
+        replicas: &[Replica<F>],
+        readers: &[Reader<F>],
+        marks: &[RelayMark],
+        messages: &[Message<F>],
+        journal: &[Operation<F>],
     ) -> bool
-        ensures { result ≡ lengths_fit self.now.numbers replicas readers marks messages journal }
+        ensures { result ≡ fits self.now.numbers (tables replicas.now readers.now marks.now messages.now journal.now) }
     {
-        let numbers = self.numbers;
-        replicas == numbers.replicas as usize
-            && readers == numbers.readers as usize
-            && marks == numbers.replicas as usize * numbers.readers as usize
-            && messages == numbers.message_room
-            && journal == numbers.journal_room
+        let numbers = &self.numbers;
+        parties_fit(numbers.replicas, numbers.readers, replicas, readers, marks)
+            && messages.len() == numbers.message_room
+            && journal.len() == numbers.journal_room
     }
 }

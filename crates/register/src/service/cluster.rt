@@ -1,16 +1,17 @@
 ghost use Rattle.std.specs.Prelude.{◌≡◌, ◌+◌, ◌*◌, ◌<◌, ◌≤◌, true, vec_len};
+ghost use Rattle.quorum.specs.Meaning.{rule_of};
 ghost use Rattle.model.specs.Sound.{sound as is_sound};
-ghost use Rattle.steps.specs.Queueing.{window};
-ghost use Rattle.tables.specs.Judged.{of_size};
-ghost use Rattle.tables.specs.View.{tables, view};
+ghost use Rattle.tables.specs.View.{view};
+ghost use Rattle.register.specs.Owned.{owned};
 
 use super::{Draft, Register};
 use model::{Message, Operation, Reader, RelayMark, Replica};
+use quorum::QuorumSystem;
+use std::alloc::AllocError;
 
-/// A register in service that owns its tables. Nobody else writes into them, so they stay sound, and no call checks them again.
+/// The five tables, owned.
 #[derive(Drop)]
-pub struct Cluster<R, F> {
-    register: Register<R, F>,
+struct OwnedTables<F> {
     replicas: Vec<Replica<F>>,
     readers: Vec<Reader<F>>,
     marks: Vec<RelayMark>,
@@ -18,22 +19,36 @@ pub struct Cluster<R, F> {
     queue: Vec<Message<F>>,
     head: usize,
     journal: Vec<Operation<F>>,
-    ghost replicas_fit: { vec_len replicas ≡ register.numbers.replicas },
-    ghost readers_fit: { vec_len readers ≡ register.numbers.readers },
-    ghost marks_fit: { vec_len marks ≡ register.numbers.replicas * register.numbers.readers },
-    ghost queue_fits: { head + register.numbers.message_room ≤ vec_len queue },
-    ghost queue_slack: { register.numbers.message_room < vec_len queue },
-    ghost journal_fits: { vec_len journal ≡ register.numbers.journal_room },
-    ghost sound: { is_sound (of_size register.numbers.replicas) (view register.start register.numbers (tables replicas.items readers.items marks.items (window head register.numbers.message_room queue.items) journal.items)) ≡ true },
+}
+
+/// A register in service that owns its tables. Nobody else writes into them, so they stay sound, and no call checks them again.
+#[derive(Drop)]
+pub struct Cluster<R: QuorumSystem, F> {
+    register: Register<R, F>,
+    tables: OwnedTables<F>,
+    ghost replicas_fit: { vec_len tables.replicas ≡ register.numbers.replicas },
+    ghost readers_fit: { vec_len tables.readers ≡ register.numbers.readers },
+    ghost marks_fit: { vec_len tables.marks ≡ register.numbers.replicas * register.numbers.readers },
+    ghost queue_fits: { tables.head + register.numbers.message_room ≤ vec_len tables.queue },
+    ghost queue_slack: { register.numbers.message_room < vec_len tables.queue },
+    ghost journal_fits: { vec_len tables.journal ≡ register.numbers.journal_room },
+    ghost sound: { is_sound (rule_of R.QuorumSystem register.rule) (view register.start register.numbers (owned register.numbers.message_room tables)) ≡ true },
 }
 
 /// A draft that was not put into service over tables of its own, and why.
 #[derive(Drop)]
-pub enum Unfounded<R, F> {
+pub struct Unfounded<R: QuorumSystem, F> {
+    pub draft: Draft<R, F>,
+    pub cause: UnfoundedCause,
+}
+
+/// Why a draft was not put into service over tables of its own.
+#[derive(Debug, Drop)]
+pub enum UnfoundedCause {
     /// A room is outside its limits.
-    Rooms(Draft<R, F>),
+    Rooms,
     /// There is no memory for the tables.
-    Memory(Draft<R, F>),
+    Memory(AllocError),
 }
 
 mod founding;

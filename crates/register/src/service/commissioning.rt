@@ -1,11 +1,10 @@
-ghost use Rattle.std.specs.Prelude.{◌≡◌, true};
+ghost use Rattle.std.specs.Prelude.{◌≡◌, ◌*◌, true, length};
 ghost use Rattle.model.specs.State.{new_writer, new_replica, new_reader, new_mark};
 ghost use Rattle.tables.specs.View.{tables};
-ghost use Rattle.register.specs.Commissioning.{new_numbers, Filled};
-ghost use Rattle.register.specs.Service.{parties_fit, rooms_fit, allowed, first_numbers, InService, Commissioned};
+ghost use Rattle.register.specs.Commissioning.{new_numbers, parties_fit};
+ghost use Rattle.register.specs.Service.{rooms_fit, allowed, Opened, Commissioned};
 
 use super::{Draft, Register, Uncommissioned};
-use crate::filling::fill;
 use model::{Message, Operation, Phase, Reader, Refusal, RelayMark, Replica, Writer};
 use quorum::QuorumSystem;
 use tables::Numbers;
@@ -21,7 +20,7 @@ impl<R: QuorumSystem, F: Copy> Draft<R, F> {
         messages: &[Message<F>],
         journal: &[Operation<F>],
     ) -> Result<Register<R, F>, Uncommissioned<R, F>>
-        ensures { Commissioned R.QuorumSystem self
+        ensures { Commissioned self
             (tables replicas.old readers.old marks.old messages.now journal.now)
             result
             (tables replicas.new readers.new marks.new messages.now journal.now) }
@@ -32,11 +31,12 @@ impl<R: QuorumSystem, F: Copy> Draft<R, F> {
                 refusal: Refusal::TableLength,
             });
         }
-        fill(replicas, new_replica(self.start));
-        fill(readers, new_reader(self.start));
-        fill(marks, new_mark());
-        let numbers = new_numbers(self.replicas, self.readers, messages.len(), journal.len());
-        Ok(self.open(numbers, replicas, readers, marks, messages, journal))
+        let start = self.start;
+        // `fill` asks for a clone that cannot fail, which `F: Copy` does not promise
+        replicas.fill_with(|| new_replica(start));
+        readers.fill_with(|| new_reader(start));
+        marks.fill(new_mark());
+        Ok(self.open(messages.len(), journal.len()))
     }
 
     /// Whether the tables have the lengths that the register needs.
@@ -51,42 +51,23 @@ impl<R: QuorumSystem, F: Copy> Draft<R, F> {
         ensures { result ≡ allowed self.now
             (tables replicas.now readers.now marks.now messages.now journal.now) }
     {
-        self.parties_fit(replicas.len(), readers.len(), marks.len())
+        parties_fit(self.rule.size(), self.readers, replicas, readers, marks)
             && self.rooms_fit(messages.len(), journal.len())
-    }
-
-    /// Whether the three tables that are filled may have these lengths.
-    fn parties_fit(&self, replicas: usize, readers: usize, marks: usize) -> bool
-        ensures { result ≡ parties_fit self.now replicas readers marks }
-    {
-        replicas == self.replicas as usize
-            && readers == self.readers as usize
-            && marks == self.replicas as usize * self.readers as usize
     }
 
     /// Whether the messages and the journal may have these lengths.
     pub(super) fn rooms_fit(&self, messages: usize, journal: usize) -> bool
         ensures { result ≡ rooms_fit self.now messages journal }
     {
-        messages >= self.replicas as usize && messages <= 4096 && journal >= 1 && journal <= 4096
+        messages >= self.rule.size() as usize && messages <= 4096 && journal >= 1 && journal <= 4096
     }
 
-    /// The register over tables that are filled.
-    pub(super) fn open(
-        self,
-        numbers: Numbers,
-        replicas: &[Replica<F>],
-        readers: &[Reader<F>],
-        marks: &[RelayMark],
-        messages: &[Message<F>],
-        journal: &[Operation<F>],
-    ) -> Register<R, F>
-        requires lengths { allowed self (tables replicas.now readers.now marks.now messages.now journal.now) ≡ true }
-        requires filled { Filled self.start (tables replicas.now readers.now marks.now messages.now journal.now) }
-        requires numbered { numbers ≡ first_numbers self (tables replicas.now readers.now marks.now messages.now journal.now) }
-        ensures { InService R.QuorumSystem self result
-            (tables replicas.now readers.now marks.now messages.now journal.now) }
+    /// The register, over tables with so much room.
+    pub(super) fn open(self, message_room: usize, journal_room: usize) -> Register<R, F>
+        requires { rooms_fit self message_room journal_room ≡ true }
+        ensures { Opened self message_room journal_room result }
     {
+        let numbers = new_numbers(self.rule.size(), self.readers, message_room, journal_room);
         Register {
             rule: self.rule,
             start: self.start,
@@ -95,13 +76,23 @@ impl<R: QuorumSystem, F: Copy> Draft<R, F> {
     }
 }
 
+/// Whether the tables of the parties have the lengths that so many replicas and readers need.
+pub(super) fn parties_fit<F: Copy>(
+    size: u32,
+    width: u32,
+    replicas: &[Replica<F>],
+    readers: &[Reader<F>],
+    marks: &[RelayMark],
+) -> bool
+    ensures { result ≡ parties_fit size width (length replicas.now) (length readers.now) (length marks.now) }
+{
+    replicas.len() == size as usize
+        && readers.len() == width as usize
+        && marks.len() == size as usize * width as usize
+}
+
 /// The numbers of a new register.
-pub(super) fn new_numbers(
-    replicas: u32,
-    readers: u32,
-    message_room: usize,
-    journal_room: usize,
-) -> Numbers
+fn new_numbers(replicas: u32, readers: u32, message_room: usize, journal_room: usize) -> Numbers
     ensures { result ≡ new_numbers replicas readers message_room journal_room }
 {
     Numbers {

@@ -3,7 +3,7 @@ ghost use Rattle.tables.specs.View.{tables};
 ghost use Rattle.register.specs.Runs.{Runs};
 
 use super::Register;
-use model::{Call, Message, Operation, Reader, RelayMark, Replica, Reply};
+use model::{Call, Message, Operation, Reader, Refusal, RelayMark, Replica, Reply};
 use quorum::QuorumSystem;
 use std::alloc::{AllocError, Global};
 
@@ -18,9 +18,9 @@ impl<R: QuorumSystem, F: Copy> Register<R, F> {
         messages: &mut [Message<F>],
         journal: &mut [Operation<F>],
         calls: &[Call<F>],
-    ) -> Result<Vec<Reply<F>>, AllocError>
+    ) -> Result<Vec<Result<Reply<F>, Refusal>>, AllocError>
         ensures { MatchResult result
-            (λ replies. Runs R.QuorumSystem calls.now
+            (λ replies. Runs calls.now
             self.old (tables replicas.old readers.old marks.old messages.old journal.old)
             replies.items
             self.new (tables replicas.new readers.new marks.new messages.new journal.new))
@@ -28,6 +28,7 @@ impl<R: QuorumSystem, F: Copy> Register<R, F> {
             × (tables replicas.new readers.new marks.new messages.new journal.new
             ≡ tables replicas.old readers.old marks.old messages.old journal.old)) }
     {
+        // the room first, so that for want of memory no call is done: a `collect` could fail half-way
         let mut replies = Vec::with_capacity(heap, calls.len())?;
         for call in calls {
             let reply = self.call(replicas, readers, marks, messages, journal, *call);

@@ -3,10 +3,11 @@ ghost use Rattle.std.specs.Prelude.{◌≡◌, ◌≤◌, ◌&&◌, List};
 ghost use Rattle.model.specs.declared.reader.Reader.{Reader as ReaderOf};
 ghost use Rattle.model.specs.State.{line as line_of};
 ghost use Rattle.model.specs.Sound.{in_journal, recorded as is_booked, own_read as is_own_read, placed as is_placed};
-ghost use Rattle.tables.specs.Judged.{of_size, judged, message_sound};
+ghost use Rattle.tables.specs.Judged.{of_size, judged, reader_sound, message_sound};
 
 use super::lines::{line_of, recorded};
 use super::parties::suits;
+use super::sets::reader_within;
 use model::{Message, MessageKind, Operation, OperationKind, Party, Phase, Reader};
 
 /// Whether the line is a read whose owner is the reader of this number.
@@ -29,7 +30,7 @@ fn reads<F: Copy>(lines: &[Operation<F>], number: usize, operation: u16) -> bool
 }
 
 /// Whether the reader of this number is idle with operation 0, or has a read of its own under way.
-pub fn placed<F: Copy>(lines: &[Operation<F>], number: usize, reader: &Reader<F>) -> bool
+fn placed<F: Copy>(lines: &[Operation<F>], number: usize, reader: &Reader<F>) -> bool
     ensures { (start : F) (readers : List (ReaderOf F)) →
         result ≡ is_placed (judged start readers lines.now) number reader.now }
 {
@@ -37,6 +38,19 @@ pub fn placed<F: Copy>(lines: &[Operation<F>], number: usize, reader: &Reader<F>
         Phase::Idle => reader.operation == 0,
         Phase::First | Phase::Second | Phase::Relay => reads(lines, number, reader.operation),
     }
+}
+
+/// Whether the reader of this number has sets of replicas only, and is idle or has a read of its own under way.
+pub fn reader_sound<F: Copy>(
+    size: u32,
+    lines: &[Operation<F>],
+    number: usize,
+    reader: &Reader<F>,
+) -> bool
+    ensures { (start : F) (readers : List (ReaderOf F)) →
+        result ≡ reader_sound (of_size size) (judged start readers lines.now) number reader.now }
+{
+    reader_within(size, reader) && placed(lines, number, reader)
 }
 
 /// Whether the operation is in the journal, and its line can have a waiting message of this kind.

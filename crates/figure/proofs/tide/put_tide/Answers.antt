@@ -1,4 +1,4 @@
-use Rattle.std.proofs.Common.{◌≡◌, length, ℤ, decimal, ap, ◌∙◌, arith, length-append, w32, SFits, to_z, of_z, rules}
+use Rattle.std.proofs.Common.{◌≡◌, ℤ, decimal, ap, ◌∙◌, arith, length-append, w32, SFits, to_z, of_z, rules}
 use Rattle.std.proofs.lemmas.Int.{to_z-of_z}
 use Rattle.std.specs.Fmt.{signed_decimal}
 use Rattle.text.proofs.Placed.{then_put, printed_as}
@@ -7,24 +7,6 @@ use Rattle.figure.proofs.tide.put_tide.Goals as goal
 -- the level goes through its bits and back
 back : (y z : ℤ) → SFits w32 y → y ≡ z → to_z w32 (of_z w32 y) ≡ z
 back y z fits e = to_z-of_z w32 y fits ∙ e
-
-pub put_signed-at-requires : goal.put_signed-at-requires
-put_signed-at-requires c =
-    let room = simp length-append at c.requires in
-    let level = back c.mm.result c.args.level.mm (search rules) c.mm.ensures in
-    omega (arith, ap (λ z. length (signed_decimal z)) level)
-
-pub put_bytes-at-requires : goal.put_bytes-at-requires
-put_bytes-at-requires c =
-    let room = simp length-append at c.requires in
-    let level = back c.mm.result c.args.level.mm (search rules) c.mm.ensures in
-    omega (arith, ap (λ z. length (signed_decimal z)) level)
-
-pub put_number-requires : goal.put_number-requires
-put_number-requires c =
-    let room = simp length-append at c.requires in
-    let level = back c.mm.result c.args.level.mm (search rules) c.mm.ensures in
-    omega (arith, ap (λ z. length (signed_decimal z)) level, ap (λ n. length (decimal n)) c.get.ensures)
 
 pub returns : goal.returns
 returns c =

@@ -1,19 +1,24 @@
-use Rattle.std.proofs.Common.{length, ap, arith}
-use Rattle.std.proofs.lemmas.Result.{IfOk-from_err}
+use Rattle.std.proofs.Common.{length, refl, ap, ⊎_elim, arith}
 use Rattle.player.proofs.Answering.{answered_more, answered_none}
 use Rattle.player.proofs.playing.play_calls.Goals as goal
 
-pub loop-line-preserved : goal.loop-line-preserved
-loop-line-preserved g c =
-    let inv = c.loop-line.invariant in
-    let cut = c.in-Some.ensures in (
-      answered_more g.F.FigureKind _ _ _ _ _ _ _ _ _ _ _ _ inv.0 cut c.play_line-turned.ensures.rule
-          c.play_line-turned.ensures.state c.play_line-turned.ensures.answer c.in_ok-push_answer.ensures,
-      omega (arith, inv.1, ap length cut),
+pub loop-number-init : goal.loop-number-init
+loop-number-init g c =
+    rw (c.into_iter-number-iterator.ensures.into_iter_gives, c.zip-number-items.ensures.first, c.zip-number-items.ensures.second)
+    (refl, omega (arith, c.requires))
+
+pub loop-number-preserved : goal.loop-number-preserved
+loop-number-preserved g c =
+    let inv = c.loop-number.invariant in
+    let s = c.in-Some.ensures.steps in (
+      answered_more g.F.FigureKind _ _ _ _ _ _ _ _ _ _ _ _ _ _ inv.0 s.0.0 s.0.1 s.1
+          c.play_line-answer.ensures.rule c.play_line-answer.ensures.state c.play_line-answer.ensures.answer c.in_ok-push_answer.ensures,
+      omega (arith, inv.1, s.0.0, s.0.1, ap length s.1),
     )
 
+-- the lines end before the numbers do
 pub returns : goal.returns
-returns g c = answered_none g.F.FigureKind _ _ _ _ _ _ c.loop-line.invariant.0 c.in_default.ensures
-
-pub returns-in_err-push_answer : goal.returns-in_err-push_answer
-returns-in_err-push_answer g c = IfOk-from_err _ _ c.from_residual.ensures.0
+returns g c =
+    let inv = c.loop-number.invariant in
+    ⊎_elim (λ e. absurd (omega (arith, inv.1, e.1.0)))
+    (λ e. answered_none g.F.FigureKind _ _ _ _ _ _ inv.0 e.1.0) c.in-None.ensures.steps

@@ -1,9 +1,10 @@
-ghost use Rattle.std.specs.Prelude.{◌≡◌, replicate, IfOk, vec_len};
-ghost use Rattle.register.specs.Clusters.{Founded};
+ghost use Rattle.std.specs.Prelude.{◌≡◌, replicate, true, IfOk, vec_len};
+ghost use Rattle.register.specs.Service.{rooms_fit};
+ghost use Rattle.register.specs.Clusters.{Made, Founded};
 
-use super::{Cluster, Unfounded};
+use super::{Cluster, OwnedTables, Unfounded, UnfoundedCause};
 use crate::service::Draft;
-use crate::service::commissioning::{new_mark, new_numbers, new_reader, new_replica};
+use crate::service::commissioning::{new_mark, new_reader, new_replica};
 use model::{Message, MessageKind, Operation, OperationKind, Party};
 use quorum::QuorumSystem;
 use std::alloc::{AllocError, Global};
@@ -17,41 +18,47 @@ impl<R: QuorumSystem, F: Copy> Draft<R, F> {
         message_room: usize,
         journal_room: usize,
     ) -> Result<Cluster<R, F>, Unfounded<R, F>>
-        ensures { Founded R.QuorumSystem self message_room journal_room result }
+        ensures { Founded self message_room journal_room result }
     {
         if !self.rooms_fit(message_room, journal_room) {
-            return Err(Unfounded::Rooms(self));
+            return Err(Unfounded {
+                draft: self,
+                cause: UnfoundedCause::Rooms,
+            });
         }
+        match self.new_tables(heap, message_room, journal_room) {
+            Ok(tables) => Ok(Cluster {
+                register: self.open(message_room, journal_room),
+                tables,
+            }),
+            Err(e) => Err(Unfounded {
+                draft: self,
+                cause: UnfoundedCause::Memory(e),
+            }),
+        }
+    }
+
+    // The tables that it needs, new, with room for so many messages and lines.
+    fn new_tables(
+        &self,
+        heap: Global,
+        message_room: usize,
+        journal_room: usize,
+    ) -> Result<OwnedTables<F>, AllocError>
+        requires { rooms_fit self.now message_room journal_room ≡ true }
+        ensures { IfOk result (Made self.now message_room journal_room) }
+    {
         let start = self.start;
-        let count = self.replicas as usize;
+        let size = self.rule.size() as usize;
         let width = self.readers as usize;
-        let Ok(replicas) = filled(heap, count, new_replica(start)) else {
-            return Err(Unfounded::Memory(self));
-        };
-        let Ok(readers) = filled(heap, width, new_reader(start)) else {
-            return Err(Unfounded::Memory(self));
-        };
-        let Ok(marks) = filled(heap, count * width, new_mark()) else {
-            return Err(Unfounded::Memory(self));
-        };
-        // as much room again, so that the table seldom has to move
-        let Ok(queue) = filled(heap, 2 * message_room, blank_message(start)) else {
-            return Err(Unfounded::Memory(self));
-        };
-        let Ok(journal) = filled(heap, journal_room, blank_line(start)) else {
-            return Err(Unfounded::Memory(self));
-        };
-        let numbers = new_numbers(self.replicas, self.readers, message_room, journal_room);
-        let messages = &queue[0..message_room];
-        let register = self.open(numbers, &replicas, &readers, &marks, messages, &journal);
-        Ok(Cluster {
-            register,
-            replicas,
-            readers,
-            marks,
-            queue,
+        Ok(OwnedTables {
+            replicas: filled(heap, size, new_replica(start))?,
+            readers: filled(heap, width, new_reader(start))?,
+            marks: filled(heap, size * width, new_mark())?,
+            // as much room again, so that the table seldom has to move
+            queue: filled(heap, 2 * message_room, blank_message(start))?,
             head: 0,
-            journal,
+            journal: filled(heap, journal_room, blank_line(start))?,
         })
     }
 }

@@ -1,48 +1,29 @@
 ghost use Rattle.register.specs.Clusters.{Steps};
 
 use super::Cluster;
-use model::{Call, Reply};
+use model::{Call, Refusal, Reply};
 use quorum::QuorumSystem;
 use steps::step_queued;
 
 impl<R: QuorumSystem, F: Copy> Cluster<R, F> {
     /// Does any of the six calls.
-    pub fn call(self, call: Call<F>) -> (Reply<F>, Cluster<R, F>)
-        ensures { Steps R.QuorumSystem call self result.0 result.1 }
+    pub fn call(&mut self, call: Call<F>) -> Result<Reply<F>, Refusal>
+        ensures { Steps call self.old result self.new }
     {
-        let Cluster {
-            mut register,
-            mut replicas,
-            mut readers,
-            mut marks,
-            mut queue,
-            head,
-            mut journal,
-        } = self;
-        let start = register.start;
-        let mut numbers = register.numbers;
+        let Cluster { register, tables } = self;
         let queued = step_queued(
             &register.rule,
-            start,
-            &mut numbers,
-            &mut replicas,
-            &mut readers,
-            &mut marks,
-            &mut queue,
-            head,
-            &mut journal,
+            register.start,
+            &mut register.numbers,
+            &mut tables.replicas,
+            &mut tables.readers,
+            &mut tables.marks,
+            &mut tables.queue,
+            tables.head,
+            &mut tables.journal,
             call,
         );
-        register.numbers = numbers;
-        let next = Cluster {
-            register,
-            replicas,
-            readers,
-            marks,
-            queue,
-            head: queued.head,
-            journal,
-        };
-        (queued.reply, next)
+        tables.head = queued.head;
+        queued.reply
     }
 }

@@ -1,17 +1,18 @@
-use Rattle.std.proofs.Common.{◌+◌, ◌<◌, length, add-one, arith}
-use native.Mathlib.Nat.{sub-zero}
+use Rattle.std.proofs.Common.{◌≡◌, ℕ, ◌+◌, ◌<◌, length, get_or, add-one, rules}
 use Rattle.std.proofs.lemmas.List.{take_rest}
 use Rattle.text.proofs.Parting.{one_field, first_field}
 use Rattle.text.proofs.fields.cut.Goals as goal
 
-pub returns-then-end-text : goal.returns-then-end-text
-returns-then-end-text c =
-    one_field c.args.text.now c.find_byte-end.result (omega arith) c.find_byte-end.ensures.before
-
-pub returns : goal.returns
-returns c =
+pub returns-in-Some : goal.returns-in-Some
+returns-in-Some c =
     let l = c.args.text.now in
-    let n = c.find_byte-end.result in
-    let found = c.find_byte-end.ensures in
-    let lt : n < length l = omega arith in
-    rw (take_rest l (n + 1), sub-zero, add-one) (first_field l n found.before lt (found.found lt))
+    let n = c.in-Some.end in
+    let before : (k : ℕ) → k < n → get_or l k 0 ≡ 9 → ⊥ = search rules in
+    let low : n < length l = search rules in
+    let found : get_or l n 0 ≡ 9 = search rules in
+    rw (take_rest l (n + 1), add-one) (first_field l n before low found)
+
+pub returns-in-None : goal.returns-in-None
+returns-in-None c =
+    let before : (k : ℕ) → k < length c.args.text.now → get_or c.args.text.now k 0 ≡ 9 → ⊥ = search rules in
+    one_field c.args.text.now (length c.args.text.now) (search rules) before

@@ -1,18 +1,18 @@
-use Rattle.std.proofs.Common.{◌+◌, ◌<◌, length, add-one, arith}
-use native.Mathlib.Nat.{sub-zero}
-use Rattle.std.proofs.lemmas.List.{take_rest, drop_all}
+use Rattle.std.proofs.Common.{◌≡◌, ℕ, ◌+◌, ◌<◌, length, get_or, add-one, rules}
+use Rattle.std.proofs.lemmas.List.{take_rest}
 use Rattle.text.proofs.LineEnds.{one_line, first_line}
 use Rattle.text.proofs.lines.cut_line.Goals as goal
 
-pub returns-then-end-text : goal.returns-then-end-text
-returns-then-end-text c =
+pub returns-in-Some : goal.returns-in-Some
+returns-in-Some c =
     let l = c.args.text.now in
-    let n = c.find_byte-end.result in
-    rw (take_rest l n, drop_all n l (omega arith)) (one_line l c.requires (λ k lt. c.find_byte-end.ensures.before k (omega arith)))
+    let n = c.in-Some.end in
+    let before : (k : ℕ) → k < n → get_or l k 0 ≡ 10 → ⊥ = search rules in
+    let low : n < length l = search rules in
+    let found : get_or l n 0 ≡ 10 = search rules in
+    rw (take_rest l (n + 1), add-one) (first_line l n before low found)
 
-pub returns : goal.returns
-returns c =
-    let l = c.args.text.now in
-    let n = c.find_byte-end.result in
-    let lt : n < length l = omega (arith, c.find_byte-end.ensures.within, c.if-end-text.false) in
-    rw (take_rest l (n + 1), sub-zero, add-one) (first_line l n c.find_byte-end.ensures.before lt (c.find_byte-end.ensures.found lt))
+pub returns-in-None : goal.returns-in-None
+returns-in-None c =
+    let before : (k : ℕ) → k < length c.args.text.now → get_or c.args.text.now k 0 ≡ 10 → ⊥ = search rules in
+    one_line c.args.text.now c.requires before

@@ -1,22 +1,14 @@
-use Rattle.std.proofs.Common.{◌^◌, ◌≤◌, Some, None, sym, ◌∙◌, arith, rules}
+use Rattle.std.proofs.Common.{◌^◌, ◌≤◌, length, Some, None, sym, ◌∙◌, arith, rules}
 use native.Mathlib.Nat.{pow-le-pow_right}
-use Rattle.text.specs.Numbers.{spelled}
 use Rattle.text.proofs.Spelling.{spelled_more, spelled_end, spelled_is, grows}
 use Rattle.text.proofs.numbers.number.Goals as goal
 
-pub returns-then-field-eq0 : goal.returns-then-field-eq0
-unfolding spelled
-returns-then-field-eq0 c = record { value = search rules; small = tt }
-
-pub returns-in_err-n : goal.returns-in_err-n
-returns-in_err-n c =
+pub returns-in_err-n-clause-value : goal.returns-in_err-n-clause-value
+returns-in_err-n-clause-value c =
     let xs = c.args.field.now in
     let none = c.in_err-n.ensures.value in
     let here = spelled_more c.loop-b.n xs c.loop-b.b-index c.loop-b-test.true None none in
-    rw c.from_residual.ensures (record {
-      value = here ∙ c.loop-b.invariant.0 ∙ spelled_is xs (omega arith) (omega arith);
-      small = tt;
-    })
+    rw c.from_residual.ensures (here ∙ c.loop-b.invariant.0 ∙ spelled_is xs (omega arith) (omega arith))
 
 pub loop-b-preserved : goal.loop-b-preserved
 loop-b-preserved c =
@@ -33,6 +25,7 @@ returns c =
     let xs = c.args.field.now in
     let n = c.loop-b.n in
     let i = c.loop-b.b-index in
+    let some : 1 ≤ length xs = search rules in
     let few : i ≤ 6 = omega arith in
     let most : 10 ^ i ≤ 10 ^ 6 = pow-le-pow_right (omega arith) few in
     record {

@@ -8,10 +8,10 @@ put_number-end-requires t c =
     let parts = decimal_last c.args.n c.if-n-lt10.false (omega arith) in
     (omega arith, omega (arith, simp length-append at (ap length parts)))
 
-pub put_digit-requires-2 : goal.put_digit-requires-2
-put_digit-requires-2 t c =
+pub put_digit-requires-2-clause-room : goal.put_digit-requires-2-clause-room
+put_digit-requires-2-clause-room t c =
     let parts = decimal_last c.args.n c.if-n-lt10.false (omega arith) in
-    record { digit = omega arith; room = omega (arith, simp length-append at (ap length parts)) }
+    omega (arith, simp length-append at (ap length parts))
 
 pub returns : goal.returns
 returns t c =

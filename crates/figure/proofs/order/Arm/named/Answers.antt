@@ -1,19 +1,10 @@
-use Rattle.std.proofs.Common.{rules}
+use Rattle.std.proofs.Common.{◌≡◌, codes, refl, rules}
+use Rattle.std.proofs.lemmas.Slice.Eq.{text_from_reads}
 use Rattle.figure.specs.Orders.{arm_of}
 use Rattle.figure.proofs.order.Arm.named.Goals as goal
 
-pub returns-then-is_word : goal.returns-then-is_word
+pub returns-in-starboard : goal.returns-in-starboard
 unfolding arm_of
-returns-then-is_word c = search rules
-
-pub returns-then-is_word-2 : goal.returns-then-is_word-2
-unfolding arm_of
-returns-then-is_word-2 c = search rules
-
-pub returns-then-is_word-3 : goal.returns-then-is_word-3
-unfolding arm_of
-returns-then-is_word-3 c = search rules
-
-pub returns : goal.returns
-unfolding arm_of
-returns c = search rules
+returns-in-starboard c =
+    let word : c.args.word.now ≡ codes "starboard" = text_from_reads c.args.word.now (codes "starboard") (search rules) (search rules) in
+    rw word refl

@@ -1,30 +1,23 @@
-use Rattle.std.proofs.Common.{refl}
-use Rattle.register.proofs.Calling.{carries_declined, carries_judged}
-use Rattle.register.proofs.Invariants.{kept_of, keeps}
+use Rattle.std.proofs.Common.{refl, ◌∙◌}
+use Rattle.register.proofs.Calling.{plays_declined, plays_sized}
 use Rattle.register.proofs.service.Register.call.Goals as goal
 
-pub returns-in-Some : goal.returns-in-Some
-returns-in-Some g c = record {
-  rule = refl;
-  start = refl;
-  carries = carries_declined _ _ _ _ _ _ (kept_of c.args.self.now) c.in-Some.ensures;
-}
+pub returns-in_err-check : goal.returns-in_err-check
+returns-in_err-check g c = plays_declined _ _ _ c.from_residual.ensures.1 c.in_err-check.ensures
 
 pub invariant_of-self : goal.invariant_of-self
-invariant_of-self g c = keeps c.step.ensures.kept
+invariant_of-self g c =
+    let did = c.step.ensures in
+    record { kept = did.kept; sized = did.sizes.replicas ∙ c.args.self.now.sized }
 
 pub returns : goal.returns
-returns g c = record {
-  rule = refl;
-  start = refl;
-  carries =
-      carries_judged _ _ _ _ _ _ _ _ c.in-None.ensures
-      (record {
-        replicas = c.step.auto.replicas;
-        readers = c.step.auto.readers;
-        marks = c.step.auto.marks;
-        messages = c.step.auto.messages;
-        journal = c.step.auto.journal;
-      })
-      c.step.ensures;
-}
+returns g c =
+    plays_sized _ _ refl refl refl c.in_ok-check.ensures
+    (record {
+      replicas = c.step.auto.replicas;
+      readers = c.step.auto.readers;
+      marks = c.step.auto.marks;
+      messages = c.step.auto.messages;
+      journal = c.step.auto.journal;
+    })
+    c.step.ensures

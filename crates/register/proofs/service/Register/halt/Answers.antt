@@ -1,31 +1,24 @@
-use Rattle.std.proofs.Common.{sym, refl}
+use Rattle.std.proofs.Common.{sym, refl, ◌∙◌}
 use Rattle.register.specs.Calls.{meaning}
-use Rattle.register.proofs.Calling.{carries_declined, carries_judged}
-use Rattle.register.proofs.Invariants.{kept_of, keeps}
+use Rattle.register.proofs.Calling.{plays_declined, plays_judged}
 use Rattle.register.proofs.service.Register.halt.Goals as goal
 
-pub returns-in-Some : goal.returns-in-Some
-returns-in-Some g c = record {
-  rule = refl;
-  start = refl;
-  carries = carries_declined _ _ _ _ _ _ (kept_of c.args.self.now) c.in-Some.ensures;
-}
+pub returns-in_err-check : goal.returns-in_err-check
+returns-in_err-check g c = plays_declined _ _ _ c.from_residual.ensures.1 c.in_err-check.ensures
 
 pub invariant_of-self : goal.invariant_of-self
-invariant_of-self g c = keeps (c.halt_party.ensures c.args.self.now.start (meaning g.R.QuorumSystem c.args.self.now) c.args.marks.now c.args.messages.now c.args.journal.now (sym c.in-None.ensures.fitting.replicas) c.in-None.ensures.fitting.messages c.in-None.ensures.fitting.journal).kept
+invariant_of-self g c =
+    let did = c.halt_party.ensures c.args.self.now.start (meaning c.args.self.now) c.args.marks.now c.args.messages.now c.args.journal.now (sym (c.in_ok-check.ensures.fitting.replicas ∙ c.args.self.now.sized)) c.in_ok-check.ensures.fitting.messages c.in_ok-check.ensures.fitting.journal in
+    record { kept = did.kept; sized = did.sizes.replicas ∙ c.args.self.now.sized }
 
 pub returns : goal.returns
-returns g c = record {
-  rule = refl;
-  start = refl;
-  carries =
-      carries_judged _ _ _ _ _ _ _ _ c.in-None.ensures
-      (record {
-        replicas = c.halt_party.auto.replicas;
-        readers = c.halt_party.auto.readers;
-        marks = refl;
-        messages = refl;
-        journal = refl;
-      })
-      (c.halt_party.ensures _ _ _ _ _ (sym c.in-None.ensures.fitting.replicas) c.in-None.ensures.fitting.messages c.in-None.ensures.fitting.journal);
-}
+returns g c =
+    plays_judged _ _ refl refl refl c.in_ok-check.ensures
+    (record {
+      replicas = c.halt_party.auto.replicas;
+      readers = c.halt_party.auto.readers;
+      marks = refl;
+      messages = refl;
+      journal = refl;
+    })
+    (c.halt_party.ensures _ _ _ _ _ (sym (c.in_ok-check.ensures.fitting.replicas ∙ c.args.self.now.sized)) c.in_ok-check.ensures.fitting.messages c.in_ok-check.ensures.fitting.journal)

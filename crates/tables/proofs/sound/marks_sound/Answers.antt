@@ -5,7 +5,7 @@ use borrow.Author.Tests.{tests}
 use Rattle.model.specs.Sound.{mark_within}
 use Rattle.tables.specs.Judged.{of_size}
 use Rattle.tables.proofs.Listed.{each_listed}
-use Rattle.tables.proofs.sound.sets.marks_within.Goals as goal
+use Rattle.tables.proofs.sound.marks_sound.Goals as goal
 
 pub returns : goal.returns
 returns c =
