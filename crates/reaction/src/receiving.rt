@@ -16,7 +16,7 @@ fn line_of<F: Copy>(journal: &[Operation<F>], operation: u16) -> Operation<F>
     requires { (1 ≤ operation) × (operation ≤ length journal.now) }
     ensures { (lines : ℕ) (d : LineOf F) → operation ≤ length (take lines journal.now) → result ≡ slice_index_or (take lines journal.now) (pred operation) d }
 {
-    journal[operation as usize - 1]
+    journal[usize::from(operation) - 1]
 }
 
 /// What a message does that is delivered. Nothing is altered: the tables are only read.

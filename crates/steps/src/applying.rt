@@ -77,8 +77,8 @@ pub fn count_sent<F: Copy>(journal: &mut [Operation<F>], lines: u16, operation: 
     ensures { (start : F) → journal.new ≡ stored (set (take lines journal.old) (operation - 1)
         (sent_more (slice_index_or (take lines journal.old) (operation - 1) (no_line start)) more)) journal.old }
 {
-    let at = (operation as usize).saturating_sub(1);
-    if at < lines as usize {
+    let at = usize::from(operation).saturating_sub(1);
+    if at < usize::from(lines) {
         add_sent(journal, at, more);
     }
 }
@@ -117,8 +117,8 @@ pub fn finish_operation<F: Copy>(
         return Reply::Done;
     };
     numbers.finished = numbers.finished.saturating_add(1);
-    let event = numbers.lines as u32 + numbers.finished as u32;
-    let sent = end_line(journal, finish.operation as usize - 1, event, finish);
+    let event = u32::from(numbers.lines) + u32::from(numbers.finished);
+    let sent = end_line(journal, usize::from(finish.operation) - 1, event, finish);
     Reply::Finished {
         operation: finish.operation,
         stamp: finish.stamp,

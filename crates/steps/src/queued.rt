@@ -14,7 +14,7 @@ use quorum::QuorumSystem;
 use reaction::Reaction;
 use tables::Numbers;
 
-/// The answer to a call, and where the table of messages begins then.
+/// The answer to a call, and where the table of messages begins then, whatever the answer.
 #[derive(Clone, Copy)]
 pub struct Queued<F> {
     pub reply: Result<Reply<F>, Refusal>,

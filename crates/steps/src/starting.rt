@@ -139,7 +139,7 @@ fn has_room(numbers: &Numbers) -> Result<(), Refusal>
     requires { Kept numbers.now }
     ensures { result_err result ≡ first_of (room_tests numbers.now) }
 {
-    if numbers.lines as usize >= numbers.journal_room {
+    if usize::from(numbers.lines) >= numbers.journal_room {
         return Err(Refusal::JournalFull);
     }
     if numbers.waiting + numbers.replicas as usize > numbers.message_room {
@@ -202,14 +202,14 @@ fn open<F: Copy>(
     let line = Operation {
         kind,
         owner: message.sender,
-        started: numbers.lines as u32 + 1 + numbers.finished as u32,
+        started: u32::from(numbers.lines) + 1 + u32::from(numbers.finished),
         finished: 0,
         exchanges: 0,
         stamp: message.stamp,
         figure: message.figure,
         sent: numbers.replicas as u16,
     };
-    append(journal, numbers.lines as usize, line);
+    append(journal, usize::from(numbers.lines), line);
     send_all(messages, numbers.waiting, numbers.replicas, message);
     numbers.waiting += numbers.replicas as usize;
     numbers.lines += 1;

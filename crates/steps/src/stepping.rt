@@ -12,6 +12,7 @@ use quorum::QuorumSystem;
 use tables::Numbers;
 
 /// Any call on tables that are known to be sound: they are not checked again.
+// The tables are lent slices, handed to each call one by one; rule, start and numbers are lent by & or &mut as a call needs.
 pub fn step<R: QuorumSystem, F: Copy>(
     rule: &R,
     start: F,

@@ -34,7 +34,7 @@ pub fn tables_sound<F: Copy>(
 {
     let size = numbers.replicas;
     let waiting = in_use(messages, numbers.waiting);
-    let lines = in_use(journal, numbers.lines as usize);
+    let lines = in_use(journal, usize::from(numbers.lines));
     parties_sound(size, readers, marks, lines) && messages_sound(size, readers, lines, waiting)
 }
 

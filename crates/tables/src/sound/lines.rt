@@ -16,7 +16,7 @@ pub fn line_of<F: Copy>(lines: &[Operation<F>], operation: u16) -> Option<&Opera
         (λ o. (in_journal (judged start readers lines.now) operation ≡ true)
         × (o.now ≡ line_of (judged start readers lines.now) operation)) }
 {
-    lines.get((operation as usize).checked_sub(1)?)
+    lines.get(usize::from(operation).checked_sub(1)?)
 }
 
 /// Whether a message of this kind serves an operation of that kind.

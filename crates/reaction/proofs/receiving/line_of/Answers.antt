@@ -11,5 +11,5 @@ returns g c = λ lines d h.
     let u = within_front n lines l h in
     let there : n - 1 < length l = omega (arith, c.requires.0, c.requires.1) in
     let front : pred n < lines = omega (arith, e, c.requires.0, u.0) in
-    get_or_read l (n - 1) _ there c.index-journal-operation.is d ∙ ap (λ (i : ℕ). get_or l i d) e
+    get_or_read l (n - 1) _ there (rw c.from.ensures at c.index-journal-from.is) d ∙ ap (λ (i : ℕ). get_or l i d) e
     ∙ sym (get_or-take lines l (pred n) d front)

@@ -23,7 +23,7 @@ returns g c =
     rw c.in-Some.is (record {
       numbers = rw c.saturating_add-numbers.ensures;
       ends = λ start rs ds ks ms fm.
-          rw (c.end_line-sent.ensures.sent (no_line start), c.end_line-sent.ensures.ended (no_line start), c.saturating_add-numbers.ensures)
+          rw (c.end_line-sent.ensures.sent (no_line start), c.end_line-sent.ensures.ended (no_line start), c.from.ensures, c.from-2.ensures, c.from-3.ensures, c.saturating_add-numbers.ensures)
           (ends_some start c.args.numbers.now (tables rs ds ks ms c.args.journal.now) c.requires.kept fm c.requires.journal_fits
           c.in-Some.finish there);
     })

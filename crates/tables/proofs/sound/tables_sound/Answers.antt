@@ -9,7 +9,7 @@ returns-then-parties_sound g c = λ rule e start replicas.
     (view start c.args.numbers.now
     (tables replicas c.args.readers.now c.args.marks.now c.args.messages.now c.args.journal.now))
     c.in_use-lines.result.now c.in_use-waiting.result.now true c.messages_sound.result e
-    c.in_use-lines.ensures c.in_use-waiting.ensures (c.if-parties_sound.ensures start)
+    (cc) c.in_use-waiting.ensures (c.if-parties_sound.ensures start)
     (c.messages_sound.ensures start)
 
 pub returns-else-parties_sound : goal.returns-else-parties_sound
@@ -18,5 +18,5 @@ returns-else-parties_sound g c = λ rule e start replicas.
     ∙ sound_judged rule c.args.numbers.now.replicas
     (view start c.args.numbers.now
     (tables replicas c.args.readers.now c.args.marks.now c.args.messages.now c.args.journal.now))
-    c.in_use-lines.result.now c.in_use-waiting.result.now false _ e c.in_use-lines.ensures
+    c.in_use-lines.result.now c.in_use-waiting.result.now false _ e (cc)
     c.in_use-waiting.ensures (c.if-parties_sound.ensures start) refl
