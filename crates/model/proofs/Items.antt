@@ -1,10 +1,10 @@
 -- What holds of every item of a list.
 use Rattle.std.proofs.Common.{◌≡◌, ℕ, zero, suc, ◌+◌, ◌<◌, Bool, true, List, [], ◌∷◌, length, get_or, replicate, refl, subst, inl, inr, arith}
-use Rattle.std.specs.List.{AllByRecursion as All}
+use Rattle.std.specs.List.{AllByRecursion as All, list_all}
 use Rattle.std.proofs.lemmas.List.{get_or_past}
 use Rattle.std.proofs.ByRecursion.{All-get_or, Decides-by_and}
 use Rattle.std.proofs.lemmas.Bool.{and_parts, and_from, cases_lt}
-use Rattle.model.specs.Sound.{each, each_from}
+use Rattle.model.specs.Sound.{each_from}
 
 pub all_alike : {A : Type 0} (P : A → Type 0) (n : ℕ) (x : A) → P x → All P (replicate n x)
 all_alike P zero x h = tt
@@ -22,13 +22,11 @@ all_read P l k d past h = elim (cases_lt k (length l)) [
 abbrev pub Passes : {A : Type 0} → (A → Bool) → A → Type 0
 Passes test x = test x ≡ true
 
-pub each_tells : {A : Type 0} (test : A → Bool) (l : List A) → each test l ≡ true → All (Passes test) l
-unfolding each
-each_tells test l = (Decides-by_and test (Passes test) (each test) (λ x. (λ e. e, λ e. e)) refl (λ x xs. refl) l).0
+pub each_tells : {A : Type 0} (test : A → Bool) (l : List A) → list_all test l ≡ true → All (Passes test) l
+each_tells test l = (Decides-by_and test (Passes test) (list_all test) (λ x. (λ e. e, λ e. e)) refl (λ x xs. refl) l).0
 
-pub each_from_all : {A : Type 0} (test : A → Bool) (l : List A) → All (Passes test) l → each test l ≡ true
-unfolding each
-each_from_all test l = (Decides-by_and test (Passes test) (each test) (λ x. (λ e. e, λ e. e)) refl (λ x xs. refl) l).1
+pub each_from_all : {A : Type 0} (test : A → Bool) (l : List A) → All (Passes test) l → list_all test l ≡ true
+each_from_all test l = (Decides-by_and test (Passes test) (list_all test) (λ x. (λ e. e, λ e. e)) refl (λ x xs. refl) l).1
 
 module _ {A : Type 0} (test : ℕ → A → Bool) (d : A) where
   pub places_tell : (n : ℕ) (l : List A) → each_from n test l ≡ true → (i : ℕ) → i < length l

@@ -1,6 +1,6 @@
 -- Sound tables, by what the test tells of each reader, mark and message; and that a later state keeps it.
 use Rattle.std.proofs.Common.{◌≡◌, ℕ, ◌<◌, ◌≤◌, Bool, true, not, ◌&&◌, eqb, ltb, leb, List, [], ◌∷◌, length, refl, ap, ◌∙◌, inl, inr, zero-add, arith}
-use Rattle.std.specs.List.{AllByRecursion as All}
+use Rattle.std.specs.List.{AllByRecursion as All, list_all}
 use Rattle.std.proofs.lemmas.Bool.{and_parts, and_from, or_cases, or_left, or_right, le-leb, leb-true}
 use Rattle.std.proofs.ByRecursion.{All-weaker}
 use Rattle.quorum.specs.Sets.{Rule}
@@ -12,7 +12,7 @@ use Rattle.model.specs.declared.marks.RelayMark.{RelayMark}
 use Rattle.model.specs.declared.messages.Message.{Message}
 use Rattle.model.specs.declared.journal.Operation.{Operation}
 use Rattle.model.specs.State.{State, new_reader, reader, line}
-use Rattle.model.specs.Sound.{each, reader_within, mark_within, sets_within, a_reader, a_replica, suits, in_journal}
+use Rattle.model.specs.Sound.{reader_within, mark_within, sets_within, a_reader, a_replica, suits, in_journal}
 use Rattle.model.specs.Sound.{addressed, messages_addressed, serves, owned, recorded, messages_recorded, idle, own_read}
 use Rattle.model.specs.Sound.{is_read, is_reader, placed, readers_placed, sound}
 use Rattle.model.proofs.Items.{Passes, each_tells, each_from_all, places_tell, from_places}
@@ -52,7 +52,7 @@ module _ {F : Type 0} where
       let a = and_parts (sets_within rule s && messages_addressed rule s && messages_recorded s) (readers_placed s) e in
       let b = and_parts (sets_within rule s && messages_addressed rule s) (messages_recorded s) a.0 in
       let c = and_parts (sets_within rule s) (messages_addressed rule s) b.0 in
-      let d = and_parts (each (reader_within rule) s.readers) (each (mark_within rule) s.marks) c.0 in
+      let d = and_parts (list_all (reader_within rule) s.readers) (list_all (mark_within rule) s.marks) c.0 in
       record {
         readers_in = each_tells (reader_within rule) s.readers d.0;
         marks_in = each_tells (mark_within rule) s.marks d.1;

@@ -1,6 +1,6 @@
 -- What each call sends, and what it leaves that can still be sent.
 use Rattle.std.proofs.Common.{◌≡◌, ℕ, zero, suc, pred, ◌+◌, ◌*◌, ◌<◌, ◌≤◌, min, Bool, true, false, cond, not, ◌&&◌, eqb, leb, List, [], ◌∷◌, ◌++◌, length, get_or, set, Some, None, Option, sym, refl, ap, ◌∙◌, subst, inl, inr, le_of_eq, arith, length-set, Ok, Err}
-use Rattle.std.specs.List.{AllByRecursion as All}
+use Rattle.std.specs.List.{AllByRecursion as All, list_all}
 use Rattle.std.proofs.lemmas.List.{get_or_append_left, get_or_push, get_or_past, length_push}
 use Rattle.std.proofs.ByRecursion.{All-weaker}
 use Rattle.std.proofs.lemmas.Bool.{cond_both, cases_eq, leb-true, leb-false, and_parts, not-false, both_ways}
@@ -22,7 +22,7 @@ use Rattle.model.specs.declared.answers.Reply.{Reply}
 use Rattle.model.specs.declared.answers.Refusal.{Refusal}
 use Rattle.model.specs.State.{State, Held, index, unused, new_reader, no_line, no_message, replica, reader, message, line, without, without_message}
 use Rattle.model.specs.Records.{one_sent, reading, reader_halted, writing, writer_halted, replica_halted}
-use Rattle.model.specs.Sound.{each, each_from, addressed, suits, recorded, placed, in_journal, messages_addressed, messages_recorded, readers_placed, sets_within, sound, is_round_read, is_relay_read}
+use Rattle.model.specs.Sound.{each_from, addressed, suits, recorded, placed, in_journal, messages_addressed, messages_recorded, readers_placed, sets_within, sound, is_round_read, is_relay_read}
 use Rattle.model.specs.Deliveries.{Effect, to_all, in_first, received}
 use Rattle.model.specs.Steps.{Outcome, declined, counted, posted, outcome, next_number, to_write, write, opening_phase, opening_message, read, deliver, dropped, duplicated, halt, done, tests, first_of, refusal, overfull, settled, step, no_place}
 use Rattle.model.specs.Claims.{In, asked, of_operation, limit}
@@ -46,12 +46,11 @@ not_asked x e = both_ways false refl (ap is_asked e)
 
 -- Tests of every item of a list
 
-pub each_at : {A : Type 0} (test : A → Bool) (l : List A) (i : ℕ) (d : A) → i < length l → each test l ≡ true
+pub each_at : {A : Type 0} (test : A → Bool) (l : List A) (i : ℕ) (d : A) → i < length l → list_all test l ≡ true
     → test (get_or l i d) ≡ true
-unfolding each
 each_at test [] i d h e = absurd (omega arith)
-each_at test (x ∷ l) zero d h e = (and_parts (test x) (each test l) e).0
-each_at test (x ∷ l) (suc i) d h e = each_at test l i d (omega arith) (and_parts (test x) (each test l) e).1
+each_at test (x ∷ l) zero d h e = (and_parts (test x) (list_all test l) e).0
+each_at test (x ∷ l) (suc i) d h e = each_at test l i d (omega arith) (and_parts (test x) (list_all test l) e).1
 
 pub each_from_at : {A : Type 0} (n : ℕ) (test : ℕ → A → Bool) (l : List A) (i : ℕ) (d : A) (k : ℕ) → n + i ≡ k
     → i < length l → each_from n test l ≡ true → test k (get_or l i d) ≡ true
@@ -64,11 +63,10 @@ each_from_at n test (x ∷ l) (suc i) d k w h e =
     (and_parts (test n x) (each_from (suc n) test l) e).1
 
 pub each_all : {A : Type 0} (test : A → Bool) (P : A → Type 0) → ((x : A) → test x ≡ true → P x) → (l : List A)
-    → each test l ≡ true → All P l
-unfolding each
+    → list_all test l ≡ true → All P l
 each_all test P h [] e = tt
 each_all test P h (x ∷ l) e =
-    (h x (and_parts (test x) (each test l) e).0, each_all test P h l (and_parts (test x) (each test l) e).1)
+    (h x (and_parts (test x) (list_all test l) e).0, each_all test P h l (and_parts (test x) (list_all test l) e).1)
 
 module _ {F : Type 0} where
   -- What may still be sent for operation n.
@@ -99,8 +97,8 @@ module _ {F : Type 0} where
   -- Tables that are sound
 
   pub record SoundParts (rule : Rule) (s : State F) : Type 0 where
-    pub all_addressed : each (addressed rule s) s.messages ≡ true
-    pub all_recorded : each (λ m. recorded s m.kind (line s m.operation)) s.messages ≡ true
+    pub all_addressed : list_all (addressed rule s) s.messages ≡ true
+    pub all_recorded : list_all (λ m. recorded s m.kind (line s m.operation)) s.messages ≡ true
     pub all_placed : each_from 0 (placed s) s.readers ≡ true
 
   pub sound_parts : (rule : Rule) (s : State F) → sound rule s ≡ true → SoundParts rule s

@@ -1,5 +1,6 @@
 -- Which tables are sound, that is, may be those of a register in service. A call on any other tables is declined.
 use Rattle.std.specs.Prelude.{ℕ, suc, ◌^◌, Bool, true, false, not, ◌&&◌, ◌||◌, List, [], ◌∷◌, length, ◌==◌, nat_le, nat_lt}
+use Rattle.std.specs.List.{list_all}
 use Rattle.quorum.specs.Sets.{Rule}
 use Rattle.model.specs.declared.parties.Party.{Party}
 use Rattle.model.specs.declared.reader.Phase.{Phase}
@@ -12,11 +13,7 @@ use Rattle.model.specs.declared.messages.Message.{Message}
 use Rattle.model.specs.declared.journal.Operation.{Operation}
 use Rattle.model.specs.State.{State, line}
 
--- Whether each item passes the test, and the same for a test that is given the item's place too, counted from n.
-unfoldable pub each : {A : Type 0} → (A → Bool) → List A → Bool
-each test [] = true
-each test (x ∷ xs) = test x && each test xs
-
+-- Whether each item passes a test that is given the item's place too, counted from n.
 unfoldable pub each_from : {A : Type 0} → ℕ → (ℕ → A → Bool) → List A → Bool
 each_from n test [] = true
 each_from n test (x ∷ xs) = test n x && each_from (suc n) test xs
@@ -33,7 +30,7 @@ abbrev pub mark_within : Rule → RelayMark → Bool
 mark_within rule k = within rule k.relayers
 
 unfoldable pub sets_within : {F : Type 0} → Rule → State F → Bool
-sets_within rule s = each (reader_within rule) s.readers && each (mark_within rule) s.marks
+sets_within rule s = list_all (reader_within rule) s.readers && list_all (mark_within rule) s.marks
 
 -- A MESSAGE'S PARTIES exist and suit its kind, and its operation is in the journal.
 
@@ -70,7 +67,7 @@ abbrev pub addressed : {F : Type 0} → Rule → State F → Message F → Bool
 addressed rule s m = suits rule s m.kind m.sender m.receiver && in_journal s m.operation
 
 unfoldable pub messages_addressed : {F : Type 0} → Rule → State F → Bool
-messages_addressed rule s = each (addressed rule s) s.messages
+messages_addressed rule s = list_all (addressed rule s) s.messages
 
 -- A MESSAGE'S LINE is of the kind of operation that the message serves, and its owner is one who can have it.
 
@@ -114,7 +111,7 @@ abbrev pub recorded : {F : Type 0} → State F → MessageKind → Operation F �
 recorded s kind o = serves kind o.kind && owned s o.kind o.owner
 
 unfoldable pub messages_recorded : {F : Type 0} → State F → Bool
-messages_recorded s = each (λ m. recorded s m.kind (line s m.operation)) s.messages
+messages_recorded s = list_all (λ m. recorded s m.kind (line s m.operation)) s.messages
 
 -- A READER is idle with operation 0, or has a read of its own under way.
 

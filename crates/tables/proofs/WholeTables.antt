@@ -1,5 +1,6 @@
 -- Soundness goes by the size of the rule, the readers and the lines alone, and one pass over each table tests it.
 use Rattle.std.proofs.Common.{◌≡◌, ℕ, suc, Bool, true, false, ◌&&◌, List, [], ◌∷◌, sym, refl, ap, ◌∙◌, ap₂}
+use Rattle.std.specs.List.{list_all}
 use mathlib.Core.Path.{fun_ext}
 use mathlib.Core.Bool.{and_assoc, and-true, and-false}
 use Rattle.quorum.specs.Sets.{Rule}
@@ -11,11 +12,11 @@ use Rattle.model.specs.declared.marks.RelayMark.{RelayMark}
 use Rattle.model.specs.declared.messages.Message.{Message}
 use Rattle.model.specs.declared.journal.Operation.{Operation}
 use Rattle.model.specs.State.{State, line}
-use Rattle.model.specs.Sound.{each, each_from, reader_within, mark_within, sets_within, a_writer, a_reader, a_replica}
+use Rattle.model.specs.Sound.{each_from, reader_within, mark_within, sets_within, a_writer, a_reader, a_replica}
 use Rattle.model.specs.Sound.{suits, in_journal, addressed, messages_addressed, serves, owned, recorded, messages_recorded}
 use Rattle.model.specs.Sound.{placed, readers_placed, sound}
 use Rattle.tables.specs.Judged.{of_size, judged, reader_sound, message_sound}
-use Rattle.tables.proofs.Listed.{each_placed}
+use Rattle.tables.proofs.Listed.{all_placed}
 
 -- TWO TESTS OF EACH ITEM are one
 
@@ -32,15 +33,15 @@ each_from_both f g n (x ∷ xs) =
     and_swapped (f n x) (each_from (suc n) f xs) (g n x) (each_from (suc n) g xs)
     ∙ ap (λ b. (f n x && g n x) && b) (each_from_both f g (suc n) xs)
 
-each_both : {A : Type 0} (f g : A → Bool) (xs : List A) → (each f xs && each g xs) ≡ each (λ x. f x && g x) xs
+each_both : {A : Type 0} (f g : A → Bool) (xs : List A) → (list_all f xs && list_all g xs) ≡ list_all (λ x. f x && g x) xs
 each_both f g xs =
-    ap₂ (λ a b. a && b) (each_placed f 0 xs) (each_placed g 0 xs) ∙ each_from_both (λ k. f) (λ k. g) 0 xs
-    ∙ sym (each_placed (λ x. f x && g x) 0 xs)
+    ap₂ (λ a b. a && b) (all_placed f 0 xs) (all_placed g 0 xs) ∙ each_from_both (λ k. f) (λ k. g) 0 xs
+    ∙ sym (all_placed (λ x. f x && g x) 0 xs)
 
 each_and_from : {A : Type 0} (f : A → Bool) (g : ℕ → A → Bool) (xs : List A)
-    → (each f xs && each_from 0 g xs) ≡ each_from 0 (λ k x. f x && g k x) xs
+    → (list_all f xs && each_from 0 g xs) ≡ each_from 0 (λ k x. f x && g k x) xs
 each_and_from f g xs =
-    ap (λ b. b && each_from 0 g xs) (each_placed f 0 xs) ∙ each_from_both (λ k. f) g 0 xs
+    ap (λ b. b && each_from 0 g xs) (all_placed f 0 xs) ∙ each_from_both (λ k. f) g 0 xs
 
 -- sets of readers and of marks, messages addressed, messages recorded, readers placed: by table
 by_table : (r k a b p : Bool) → ((((r && k) && a) && b) && p) ≡ (((r && p) && k) && (a && b))
@@ -94,10 +95,10 @@ module _ {F : Type 0} (rule : Rule) (s : State F) where
 module _ {F : Type 0} (size : ℕ) (start : F) (readers : List (Reader F)) where
   abbrev pub all_parties : List RelayMark → List (Operation F) → Bool
   all_parties marks lines =
-      each_from 0 (reader_sound (of_size size) (judged start readers lines)) readers && each (mark_within (of_size size)) marks
+      each_from 0 (reader_sound (of_size size) (judged start readers lines)) readers && list_all (mark_within (of_size size)) marks
 
   abbrev pub all_messages : List (Operation F) → List (Message F) → Bool
-  all_messages lines messages = each (message_sound (of_size size) (judged start readers lines)) messages
+  all_messages lines messages = list_all (message_sound (of_size size) (judged start readers lines)) messages
 
   abbrev all_tables : List RelayMark → List (Operation F) → List (Message F) → Bool
   all_tables marks lines messages = all_parties marks lines && all_messages lines messages
@@ -106,13 +107,13 @@ sound_by_table : {F : Type 0} (rule : Rule) (s : State F)
     → sound rule s ≡ all_tables rule.size s.start s.readers s.marks s.journal s.messages
 unfolding sound sets_within messages_addressed messages_recorded readers_placed
 sound_by_table rule s =
-    by_table (each (reader_within rule) s.readers) (each (mark_within rule) s.marks)
-    (each (addressed rule s) s.messages) (each (λ m. recorded s m.kind (line s m.operation)) s.messages)
+    by_table (list_all (reader_within rule) s.readers) (list_all (mark_within rule) s.marks)
+    (list_all (addressed rule s) s.messages) (list_all (λ m. recorded s m.kind (line s m.operation)) s.messages)
     (each_from 0 (placed s) s.readers)
-    ∙ ap₂ (λ a b. (a && each (mark_within rule) s.marks) && b)
+    ∙ ap₂ (λ a b. (a && list_all (mark_within rule) s.marks) && b)
     (each_and_from (reader_within rule) (placed s) s.readers)
     (each_both (addressed rule s) (λ m. recorded s m.kind (line s m.operation)) s.messages
-    ∙ ap (λ test. each test s.messages) (fun_ext (message_parts rule s)))
+    ∙ ap (λ test. list_all test s.messages) (fun_ext (message_parts rule s)))
 
 -- Of the rule only its size counts.
 pub sound_sized : {F : Type 0} (rule other : Rule) (s : State F) → rule.size ≡ other.size → sound rule s ≡ sound other s

@@ -1,8 +1,9 @@
 //! Whether lent tables are sound, that is, may be those of a register in service: one pass over each of them.
 ghost use Rattle.std.specs.Prelude.{◌≡◌, ◌≤◌, ◌&&◌, List, length, take};
+ghost use Rattle.std.specs.List.{list_all};
 ghost use Rattle.quorum.specs.Sets.{Rule};
 ghost use Rattle.model.specs.declared.replica.Replica.{Replica as ReplicaOf};
-ghost use Rattle.model.specs.Sound.{each, each_from, mark_within, sound as is_sound};
+ghost use Rattle.model.specs.Sound.{each_from, mark_within, sound as is_sound};
 ghost use Rattle.tables.specs.Judged.{of_size, judged, reader_sound, message_sound};
 ghost use Rattle.tables.specs.View.{tables, view};
 
@@ -55,7 +56,7 @@ fn parties_sound<F: Copy>(
 ) -> bool
     ensures { (start : F) →
         result ≡ (each_from 0 (reader_sound (of_size size) (judged start readers.now lines.now))
-        readers.now && each (mark_within (of_size size)) marks.now) }
+        readers.now && list_all (mark_within (of_size size)) marks.now) }
 {
     readers_sound(size, readers, lines) && marks_sound(size, marks)
 }
@@ -71,7 +72,7 @@ fn readers_sound<F: Copy>(size: u32, readers: &[Reader<F>], lines: &[Operation<F
 
 /// Whether the sets of all marks name replicas only.
 fn marks_sound(size: u32, marks: &[RelayMark]) -> bool
-    ensures { result ≡ each (mark_within (of_size size)) marks.now }
+    ensures { result ≡ list_all (mark_within (of_size size)) marks.now }
 {
     marks.iter().all(|mark| mark_within(size, mark))
 }
@@ -84,7 +85,7 @@ fn messages_sound<F: Copy>(
     waiting: &[Message<F>],
 ) -> bool
     ensures { (start : F) →
-        result ≡ each (message_sound (of_size size) (judged start readers.now lines.now))
+        result ≡ list_all (message_sound (of_size size) (judged start readers.now lines.now))
         waiting.now }
 {
     waiting
