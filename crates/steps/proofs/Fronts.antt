@@ -1,8 +1,7 @@
 -- Tables of which a front part is in use.
-use Rattle.std.proofs.Common.{◌≡◌, ℕ, zero, suc, ◌+◌, ◌-◌, ◌<◌, ◌≤◌, List, [], ◌∷◌, ◌++◌, length, take, drop, set, replicate, sym, refl, ap, ◌∙◌, arith, length-append, length-drop, length-take, take-take}
-use lib.ListN.{length-replicate}
+use Rattle.std.proofs.Common.{◌≡◌, ℕ, zero, suc, ◌+◌, ◌-◌, ◌<◌, ◌≤◌, List, [], ◌∷◌, ◌++◌, length, take, drop, set, sym, refl, ap, ◌∙◌, arith, length-append, length-drop, length-take, take-take}
 use lib.Seq.{paste}
-use Rattle.std.proofs.lemmas.List.{drop-take, drop_more, length_push, replicate_more, drop_all, append_assoc, append-nil, take-append-drop, length-take-le, set-append_right}
+use Rattle.std.proofs.lemmas.List.{drop-take, drop_more, length_push, append_assoc, take-append-drop, length-take-le, set-append_right}
 use Rattle.model.specs.State.{stored, without}
 
 -- what is left without a place is what stands before it and behind it
@@ -68,13 +67,3 @@ pub stored_push : {A : Type 0} (t : List A) (used : ℕ) (y : A) → used < leng
 stored_push t used y lt =
     ap (λ (l : List _). set l used y) (sym (stored_own used t (omega arith)))
     ∙ stored_more (take used t) t used y (length-take-le used t (omega arith)) lt
-
-pub fill_all : {A : Type 0} (t : List A) (n : ℕ) (y : A) → n ≡ length t
-    → stored (replicate n y) t ≡ replicate (length t) y
-fill_all t n y e =
-    let l = length-replicate n y in rw (l, drop_all n t (omega arith), append-nil) (ap (λ (k : ℕ). replicate k y) e)
-
-pub fill_more : {A : Type 0} (t : List A) (n : ℕ) (y : A) → n < length t
-    → set (stored (replicate n y) t) n y ≡ stored (replicate (n + 1) y) t
-fill_more t n y lt =
-    stored_more (replicate n y) t n y (length-replicate n y) lt ∙ ap (λ (l : List _). stored l t) (replicate_more n y)

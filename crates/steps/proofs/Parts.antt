@@ -103,16 +103,6 @@ module _ {F : Type 0} (start : F) (n : Numbers) (t : Tables F) (kept : Kept n)
   lines_are : length (take n.lines t.journal) ≡ n.lines
   lines_are = length-take-le n.lines t.journal lines_fit
 
-  pub ends_none : Does start (ending s None) n t (Ok Reply.Done) n t
-  ends_none = record {
-    answer = refl;
-    state = refl;
-    messages = messages_own;
-    journal = sym (stored_own n.lines t.journal lines_fit);
-    kept = kept;
-    sizes = same_sizes n;
-  }
-
   module _ (f : Finish F) (there : HasLine n.lines f.operation) where
     abbrev ends : Operation F → ℕ → Operation F
     ends x lines = ended_by x (lines + one_more n.finished) f

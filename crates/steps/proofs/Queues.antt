@@ -1,6 +1,6 @@
 -- A table that begins somewhere in a buffer.
 use Rattle.std.proofs.Common.{◌≡◌, ℕ, zero, suc, ◌+◌, ◌-◌, ◌<◌, ◌≤◌, List, [], ◌∷◌, ◌++◌, length, take, drop, sym, refl, ap, ◌∙◌, one-add, arith, length-drop, length-take-le, take_all, take-take, drop-drop, drop_at}
-use lib.Seq.{paste, take-append-le, drop-append-le, take-paste}
+use lib.Seq.{paste, take-append-le, drop-append-le}
 use borrow.Rule.Slice.PartMut.{put_mid}
 use Rattle.model.specs.State.{stored, without}
 use Rattle.steps.specs.Queueing.{window}
@@ -61,14 +61,6 @@ module _ {A : Type 0} where
         ∙ take-append-le (used - 1) (drop 1 ys) (drop k (drop head xs)) (omega (arith, there))
         ∙ ap (λ (l : List A). take (used - 1) l) is
         ∙ without_front (drop head xs) used at lt there
-
-  -- a part of a buffer copied to its beginning
-  pub moved_to_start : (xs : List A) (head used : ℕ) → head + used ≤ length xs
-      → take used (paste xs 0 (drop head xs) used) ≡ take used (drop head xs)
-  moved_to_start xs head used le =
-      let z : 0 + used ≡ used = omega arith in
-      ap (λ (k : ℕ). take k (paste xs 0 (drop head xs) used)) (sym z)
-      ∙ take-paste xs 0 (drop head xs) used (omega arith) (omega (arith, length-drop head xs))
 
   -- A TABLE LENT OUT OF A BUFFER
 

@@ -1,16 +1,12 @@
 -- One record of the tables: what its test comes to, by what its parts answered.
 use Rattle.std.proofs.Common.{◌≡◌, ℕ, Bool, true, false, not, ◌&&◌, ◌||◌, eqb, Some, None, Option, ◌⊎◌, sym, ap, ◌∙◌, ap₂, inl, inr}
 use Rattle.std.specs.Option.{MatchOption}
-use mathlib.Core.Bool.{and_assoc}
-use Rattle.quorum.specs.Sets.{Rule}
 use Rattle.std.proofs.lemmas.Bool.{and_left}
 use Rattle.model.specs.declared.reader.Phase.{Phase}
 use Rattle.model.specs.declared.reader.Reader.{Reader}
-use Rattle.model.specs.declared.messages.Message.{Message}
 use Rattle.model.specs.declared.journal.Operation.{Operation}
 use Rattle.model.specs.State.{State, line}
-use Rattle.model.specs.Sound.{suits, in_journal, recorded, idle, own_read, placed}
-use Rattle.tables.specs.Judged.{message_sound}
+use Rattle.model.specs.Sound.{in_journal, idle, own_read, placed}
 
 -- Whether the line of an operation passes a test, by what its look-up gave and what the test answered
 pub line_tested : {F A : Type 0} (s : State F) (n : ℕ) (test : Operation F → Bool) (shows : A → Operation F)
@@ -21,16 +17,6 @@ pub line_tested : {F A : Type 0} (s : State F) (n : ℕ) (test : Operation F →
     → r ≡ (in_journal s n && test (line s n))
 line_tested s n test shows Passed None r i e t = e ∙ sym (and_left (in_journal s n) (test (line s n)) i)
 line_tested s n test shows Passed (Some a) r l e t = t a e ∙ ap₂ (λ i o. i && test o) (sym l.0) l.1
-
--- A message, by its parties and by its line
-pub message_judged : {F : Type 0} (rule : Rule) (s : State F) (m : Message F) (parties line_passes : Bool)
-    → parties ≡ suits rule s m.kind m.sender m.receiver
-    → line_passes ≡ (in_journal s m.operation && recorded s m.kind (line s m.operation))
-    → (parties && line_passes) ≡ message_sound rule s m
-message_judged rule s m parties line_passes p q =
-    ap₂ (λ a b. a && b) p q
-    ∙ sym (and_assoc (suits rule s m.kind m.sender m.receiver) (in_journal s m.operation)
-    (recorded s m.kind (line s m.operation)))
 
 -- A reader with an operation under way
 

@@ -115,12 +115,6 @@ sound_by_table rule s =
     (each_both (addressed rule s) (λ m. recorded s m.kind (line s m.operation)) s.messages
     ∙ ap (λ test. list_all test s.messages) (fun_ext (message_parts rule s)))
 
--- Of the rule only its size counts.
-pub sound_sized : {F : Type 0} (rule other : Rule) (s : State F) → rule.size ≡ other.size → sound rule s ≡ sound other s
-sound_sized rule other s e =
-    sound_by_table rule s ∙ ap (λ n. all_tables n s.start s.readers s.marks s.journal s.messages) e
-    ∙ sym (sound_by_table other s)
-
 -- What the two tests of the parts in use answered, joined.
 pub sound_judged : {F : Type 0} (rule : Rule) (size : ℕ) (s : State F) (lines : List (Operation F))
     (waiting : List (Message F)) (parties messages : Bool)

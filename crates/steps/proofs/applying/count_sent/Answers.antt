@@ -1,8 +1,8 @@
-use Rattle.std.proofs.Common.{◌≡◌, ◌-◌, ◌<◌, ◌≤◌, set, sym, ap, ◌∙◌, get_or-take}
+use Rattle.std.proofs.Common.{◌≡◌, ◌-◌, ◌<◌, set, sym, ap, ◌∙◌, get_or-take}
 use Rattle.model.specs.State.{no_line}
 use Rattle.model.specs.declared.journal.Operation.{Operation}
 use Rattle.steps.specs.Posting.{sent_more}
-use Rattle.steps.proofs.Lines.{line_changed, line_kept}
+use Rattle.steps.proofs.Lines.{line_changed}
 use Rattle.steps.proofs.applying.count_sent.Goals as goal
 
 pub returns-then-at-from : goal.returns-then-at-from
@@ -15,10 +15,3 @@ returns-then-at-from g c = λ start.
     (c.add_sent.ensures (no_line start)
     ∙ ap (λ (o : Operation _). set t at (sent_more o c.args.more)) (sym (get_or-take c.args.lines t at (no_line start) lt))
     ∙ line_changed t c.args.lines c.requires at _ lt)
-
-pub returns-else-at-from : goal.returns-else-at-from
-returns-else-at-from g c = λ start.
-    let at = c.saturating_sub-at.result in
-    let is : at ≡ c.args.operation - 1 = rw c.from.ensures at c.saturating_sub-at.ensures in
-    let past : c.args.lines ≤ at = rw c.from-2.ensures at c.if-at-from.false in
-    rw (sym is) (line_kept c.args.journal.now c.args.lines c.requires at _ past)

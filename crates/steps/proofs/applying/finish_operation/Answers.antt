@@ -1,21 +1,8 @@
-use Rattle.std.proofs.Common.{refl, arith}
 use Rattle.model.specs.State.{no_line}
 use Rattle.tables.specs.View.{tables}
 use Rattle.reaction.specs.Applied.{HasLine}
-use Rattle.steps.proofs.Parts.{ends_none, ends_some}
+use Rattle.steps.proofs.Parts.{ends_some}
 use Rattle.steps.proofs.applying.finish_operation.Goals as goal
-
-pub returns-in_default : goal.returns-in_default
-returns-in_default g c = rw c.in_default.is (record {
-  numbers = refl;
-  ends = λ start rs ds ks ms fm.
-      ends_none start c.args.numbers.now (tables rs ds ks ms c.args.journal.now) c.requires.kept fm c.requires.journal_fits;
-})
-
-pub end_line-sent-requires : goal.end_line-sent-requires
-end_line-sent-requires g c =
-    let there : HasLine c.args.numbers.now.lines c.in-Some.finish.operation = rw c.in-Some.is at c.requires.within in
-    omega (arith, there.0, there.1, c.requires.kept.lines_fit, c.requires.journal_fits)
 
 pub returns : goal.returns
 returns g c =

@@ -8,15 +8,6 @@ use Rattle.steps.specs.Applying.{numbers_ended}
 use Rattle.steps.proofs.Parts.{kept_writer, ended_kept, ended_same, applies}
 use Rattle.steps.proofs.delivering.apply.Goals as goal
 
-pub finish_operation-reply-requires : goal.finish_operation-reply-requires
-finish_operation-reply-requires g c = record {
-  kept =
-      rw c.unwrap_or-numbers.ensures
-      (kept_writer c.args.numbers.now c.requires.kept c.args.reaction.writer c.requires.applicable.writer);
-  journal_fits = c.requires.journal_fits;
-  within = c.requires.applicable.finish;
-}
-
 pub post-requires : goal.post-requires
 post-requires g c =
     let n = c.args.numbers.now in

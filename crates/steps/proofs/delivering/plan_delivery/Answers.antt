@@ -1,4 +1,4 @@
-use Rattle.std.proofs.Common.{◌<◌, length, sym, refl, arith, rules}
+use Rattle.std.proofs.Common.{sym, refl, arith}
 use Rattle.steps.proofs.Delivers.{absent, ahead, full, planned, deliverable_read}
 use Rattle.steps.proofs.Parts.{few_sent}
 use Rattle.steps.proofs.delivering.plan_delivery.Goals as goal
@@ -7,11 +7,6 @@ pub returns-then-at-numbers : goal.returns-then-at-numbers
 returns-then-at-numbers g c =
     absent _ c.args.start c.args.numbers.now _ c.requires.kept c.requires.fits c.requires.sound c.args.place
     c.if-at-numbers.true
-
-pub offset_bounds-messages-at : goal.offset_bounds-messages-at
-offset_bounds-messages-at g c =
-    let low : c.args.place < length c.args.messages.now = omega (arith, c.if-at-numbers.false, c.requires.kept.room, c.requires.fits.messages) in
-    search rules
 
 pub returns-then-message-numbers : goal.returns-then-message-numbers
 returns-then-message-numbers g c =

@@ -9,11 +9,6 @@ offset_bounds-buffer-head g c =
     let low : c.args.head ≤ length c.args.buffer.now = omega (arith, c.requires.within) in
     search (rules, scaled_fits≤)
 
-pub step-reply-requires : goal.step-reply-requires
-step-reply-requires g c =
-    let e : c.args.head + c.args.numbers.now.message_room - c.args.head ≡ c.args.numbers.now.message_room = omega arith in
-    rw e (record { kept = c.requires.kept; fits = c.requires.fits; sound = c.requires.sound })
-
 pub returns-in_default : goal.returns-in_default
 returns-in_default g c =
     let n = c.args.numbers.now in
