@@ -20,10 +20,10 @@ module _ {R F : Type 0} {g : Ghosts R} (d : Draft R F g) where
       → n ≡ new_numbers (drafted d).size d.readers message_room journal_room → Kept n
   unfolding no_stamp
   kept_first message_room journal_room fit n e = rw e (record {
-    some_replica = d.sizes.0;
-    few_replicas = d.sizes.1;
-    some_reader = d.sizes.2;
-    few_readers = d.sizes.3;
+    some_replica = d.some_replica;
+    few_replicas = d.few_replicas;
+    some_reader = d.some_reader;
+    few_readers = d.few_readers;
     room = omega arith;
     few_messages = grind (arith, nat_tests);
     lines_fit = omega arith;
