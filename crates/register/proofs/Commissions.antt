@@ -1,6 +1,7 @@
 -- A register over filled tables is newly in service.
 use Rattle.std.proofs.Common.{◌≡◌, ℕ, true, [], length, replicate, sym, refl, ap, ◌∙◌, subst, arith}
 use Rattle.std.proofs.lemmas.Bool.Decides.{nat_tests}
+use Rattle.quorum.specs.Meaning.{rule_of}
 use Rattle.quorum.specs.declared.system.QuorumSystem.{Ghosts}
 use Rattle.model.specs.Stamps.{no_stamp}
 use Rattle.model.specs.State.{State, fresh, new_replica, new_reader, new_mark}
@@ -63,6 +64,7 @@ module _ {R F : Type 0} {g : Ghosts R} (d : Draft R F g) where
         let b : Grown (meaning x) x.start [] x.numbers t = rw (o.rule, o.start, o.numbers) begins in
         record {
           opened = o;
+          same_meaning = ap (rule_of g) o.rule;
           state = rw (o.start, o.numbers) state;
           begins = b;
           serves = λ law. serves F (meaning x) law x.start [] _ b.grows;
