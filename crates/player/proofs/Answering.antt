@@ -1,23 +1,10 @@
 -- The answers to call lines, one after the other.
-use Rattle.std.proofs.Common.{◌≡◌, ℕ, ◌+◌, false, ltb, List, [], ◌∷◌, ◌++◌, length, take, Ok, Result, sym, ap, ◌∙◌, append_assoc, append-nil, arith}
-use Rattle.std.proofs.lemmas.List.{take_at}
-use Rattle.std.proofs.lemmas.Bool.{le-ltb, cond-false}
+use Rattle.std.proofs.Common.{◌≡◌, ℕ, ◌+◌, List, [], ◌∷◌, ◌++◌, sym, ap, ◌∙◌, append_assoc, append-nil}
 use Rattle.quorum.specs.Sets.{Rule}
 use Rattle.figure.specs.declared.kind.FigureKind.{Ghosts}
 use Rattle.model.specs.State.{State}
-use Rattle.script.specs.declared.fault.ScriptFault.{ScriptFault}
-use Rattle.script.specs.Answers.{LineAnswer, line_shown, LinePrinted}
+use Rattle.script.specs.Answers.{LineAnswer, line_shown}
 use Rattle.player.specs.Playing.{turn, answers}
-
--- what was printed into a buffer of 80 bytes stands at its front
-pub line_taken : (before bytes after : List ℕ) (r : Result ℕ ScriptFault) (end : ℕ) → LinePrinted before bytes after r
-    → r ≡ Ok end → length before ≡ 80 → take end after ≡ bytes
-line_taken before bytes after r end p made long =
-    let wide : ltb (length before) 80 ≡ false = le-ltb (length before) 80 (omega arith) in
-    let a = p.answer ∙ cond-false (ltb (length before) 80) _ _ wide in
-    let is : end ≡ length bytes = cc in
-    let b = p.buffer ∙ cond-false (ltb (length before) 80) _ _ wide in
-    ap (λ l. take end l) b ∙ take_at bytes _ end (sym is)
 
 module _ {F : Type 0} (kind : Ghosts F) where
   -- one line more is answered, that of number m

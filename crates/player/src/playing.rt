@@ -20,6 +20,7 @@ use text::LineCursor;
 const MOST_BYTES: usize = 65536;
 
 /// What is printed for a script, whatever its bytes are.
+#[tactic(auto, using(crate::proofs::Serving::script_served))]
 pub fn play(heap: Global, script: &[u8]) -> Result<Vec<u8>, AllocError>
     ensures prints { IfOk result (λ out. out.items ≡ played script.now) }
     ensures serves { ScriptServed }
@@ -28,6 +29,7 @@ pub fn play(heap: Global, script: &[u8]) -> Result<Vec<u8>, AllocError>
 }
 
 // The answers to its lines, or to a script that is too long.
+#[tactic(auto, using(text::proofs::LineEnds::lines_few))]
 fn play_script(heap: Global, script: &[u8]) -> Result<Vec<u8>, AllocError>
     ensures { IfOk result (λ out. out.items ≡ played script.now) }
 {

@@ -1,6 +1,7 @@
 -- A register over filled tables is newly in service.
 use Rattle.std.proofs.Common.{◌≡◌, ℕ, true, [], length, replicate, sym, refl, ap, ◌∙◌, subst, arith}
 use Rattle.std.proofs.lemmas.Bool.Decides.{nat_tests}
+use Rattle.quorum.specs.Meaning.{rule_of}
 use Rattle.quorum.specs.declared.system.QuorumSystem.{Ghosts}
 use Rattle.model.specs.Stamps.{no_stamp}
 use Rattle.model.specs.State.{State, fresh, new_replica, new_reader, new_mark}
@@ -20,10 +21,10 @@ module _ {R F : Type 0} {g : Ghosts R} (d : Draft R F g) where
       → n ≡ new_numbers (drafted d).size d.readers message_room journal_room → Kept n
   unfolding no_stamp
   kept_first message_room journal_room fit n e = rw e (record {
-    some_replica = d.sizes.0;
-    few_replicas = d.sizes.1;
-    some_reader = d.sizes.2;
-    few_readers = d.sizes.3;
+    some_replica = d.some_replica;
+    few_replicas = d.few_replicas;
+    some_reader = d.some_reader;
+    few_readers = d.few_readers;
     room = omega arith;
     few_messages = grind (arith, nat_tests);
     lines_fit = omega arith;
@@ -63,6 +64,7 @@ module _ {R F : Type 0} {g : Ghosts R} (d : Draft R F g) where
         let b : Grown (meaning x) x.start [] x.numbers t = rw (o.rule, o.start, o.numbers) begins in
         record {
           opened = o;
+          same_meaning = ap (rule_of g) o.rule;
           state = rw (o.start, o.numbers) state;
           begins = b;
           serves = λ law. serves F (meaning x) law x.start [] _ b.grows;

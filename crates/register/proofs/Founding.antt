@@ -77,7 +77,7 @@ module _ {R F : Type 0} {g : Ghosts R} (d : Draft R F g) (message_room journal_r
         sound : sound (rule_of g x.rule) (view x.start x.numbers (owned x.numbers.message_room o)) ≡ true;
       }
   new_cluster =
-      let least = d.sizes.0 in
+      let least = d.some_replica in
       let some_room : 1 ≤ message_room = grind (arith, nat_tests) in
       record {
         replicas_fit = o.replicas.ok.0 ∙ rw opened.numbers (many new.replicas _ _ m.replicas);

@@ -78,14 +78,20 @@ refilled_are o head room l long =
       with_items_is o.journal l.journal long.journal,
     ) refl
 
+-- What a call took of them, and what it gave back.
+pub record Loan {F : Type 0} (o : OwnedTables F) : Type 0 where
+  pub lent : Lent F
+  pub back : Lent F
+  pub is : lent ≡ lists o
+  pub long : AsLong o back
+
 -- A call behind the check, over the lists that a cluster lent.
-module _ {R F : Type 0} {g : Ghosts R} (x : Cluster R F g) (c : Call F) (lent back : Lent F) (is : lent ≡ lists x.tables)
-    (long : AsLong x.tables back) (r : Answer F) (head : ℕ) (n' : Numbers)
-    (within : head + x.register.numbers.message_room ≤ length lent.queue)
+module _ {R F : Type 0} {g : Ghosts R} (x : Cluster R F g) (c : Call F) (loan : Loan x.tables) (r : Answer F) (head : ℕ)
+    (n' : Numbers) (within : head + x.register.numbers.message_room ≤ length loan.lent.queue)
     (did : Advances x.register.start
     (judged (rule_for g x.register.rule x.register.numbers.replicas)
-    (view x.register.start x.register.numbers (lent_tables x.tables.head x.register.numbers.message_room lent)) c)
-    x.register.numbers r n' (lent_tables head x.register.numbers.message_room back)) where
+    (view x.register.start x.register.numbers (lent_tables x.tables.head x.register.numbers.message_room loan.lent)) c)
+    x.register.numbers r n' (lent_tables head x.register.numbers.message_room loan.back)) where
   abbrev n : Numbers
   n = x.register.numbers
 
@@ -96,19 +102,19 @@ module _ {R F : Type 0} {g : Ghosts R} (x : Cluster R F g) (c : Call F) (lent ba
   rule = cluster_rule x
 
   abbrev after : State F
-  after = view start n' (owned n'.message_room (refilled x.tables head back))
+  after = view start n' (owned n'.message_room (refilled x.tables head loan.back))
 
   -- what the tables are now
-  held : owned n'.message_room (refilled x.tables head back) ≡ lent_tables head n.message_room back
+  held : owned n'.message_room (refilled x.tables head loan.back) ≡ lent_tables head n.message_room loan.back
   held =
-      refilled_are x.tables head n'.message_room back long
-      ∙ ap (λ (room : ℕ). lent_tables head room back) did.sizes.message_room
+      refilled_are x.tables head n'.message_room loan.back loan.long
+      ∙ ap (λ (room : ℕ). lent_tables head room loan.back) did.sizes.message_room
 
-  stepped : judged (rule_for g x.register.rule n.replicas) (view start n (lent_tables x.tables.head n.message_room lent)) c
+  stepped : judged (rule_for g x.register.rule n.replicas) (view start n (lent_tables x.tables.head n.message_room loan.lent)) c
       ≡ step rule (cluster_state x) c
   stepped =
-      ap (λ (l : Rule). judged l (view start n (lent_tables x.tables.head n.message_room lent)) c) (rule_is x.register)
-      ∙ ap (λ (l : Lent F). judged rule (view start n (lent_tables x.tables.head n.message_room l)) c) is
+      ap (λ (l : Rule). judged l (view start n (lent_tables x.tables.head n.message_room loan.lent)) c) (rule_is x.register)
+      ∙ ap (λ (l : Lent F). judged rule (view start n (lent_tables x.tables.head n.message_room l)) c) loan.is
       ∙ sym (step_sound rule (cluster_state x) c x.sound)
 
   next : after ≡ (step rule (cluster_state x) c).next
@@ -127,7 +133,7 @@ module _ {R F : Type 0} {g : Ghosts R} (x : Cluster R F g) (c : Call F) (lent ba
       }
   still =
       let same = did.sizes in
-      let queue_long : length lent.queue ≡ x.tables.queue.len = ap (λ (l : Lent F). length l.queue) is ∙ sym x.tables.queue.ok.0 in
+      let queue_long : length loan.lent.queue ≡ x.tables.queue.len = ap (λ (l : Lent F). length l.queue) loan.is ∙ sym x.tables.queue.ok.0 in
       record {
         replicas_fit = x.replicas_fit ∙ sym same.replicas;
         readers_fit = x.readers_fit ∙ sym same.readers;

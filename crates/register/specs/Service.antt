@@ -43,6 +43,7 @@ pub record Opened {R F : Type 0} {g : Ghosts R} (d : Draft R F g) (message_room 
 -- x is the draft's register, newly in service over these tables. The empty history led there, and is served.
 pub record InService {R F : Type 0} {g : Ghosts R} (d : Draft R F g) (x : Register R F g) (t : Tables F) : Type 0 where
   pub opened : Opened d (length t.messages) (length t.journal) x
+  pub same_meaning : meaning x ≡ drafted d
   pub state : view x.start x.numbers t
       ≡ fresh (drafted d) d.start d.readers (length t.messages) (length t.journal)
   pub begins : Grown (meaning x) x.start [] x.numbers t

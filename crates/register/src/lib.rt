@@ -2,6 +2,9 @@
 //!
 //! Every call says in its contract which answer it gives and what every place of the tables holds after it, and carries the
 //! claims over every history that led to it. `Cluster` owns its tables, so that it need not check them.
+//!
+//! The five tables are lent to each call as five slices, not as one struct: they are the caller's memory, of fixed size, read
+//! by field and written whole, and a call borrows for writing only those that it alters.
 #![tactic(auto)]
 
 mod service;

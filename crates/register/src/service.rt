@@ -11,7 +11,10 @@ pub struct Draft<R: QuorumSystem, F> {
     rule: R,
     readers: u32,
     start: F,
-    ghost sizes: { (1 ≤ R.QuorumSystem.size rule) × (R.QuorumSystem.size rule ≤ 24) × (1 ≤ readers) × (readers ≤ 32) },
+    ghost some_replica: { 1 ≤ R.QuorumSystem.size rule },
+    ghost few_replicas: { R.QuorumSystem.size rule ≤ 24 },
+    ghost some_reader: { 1 ≤ readers },
+    ghost few_readers: { readers ≤ 32 },
 }
 
 /// A draft whose commissioning was declined, and why.

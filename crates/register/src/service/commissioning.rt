@@ -59,7 +59,7 @@ impl<R: QuorumSystem, F: Copy> Draft<R, F> {
     pub(super) fn rooms_fit(&self, messages: usize, journal: usize) -> bool
         ensures { result ≡ rooms_fit self.now messages journal }
     {
-        messages >= self.rule.size() as usize && messages <= 4096 && journal >= 1 && journal <= 4096
+        (self.rule.size() as usize..=4096).contains(&messages) && (1..=4096).contains(&journal)
     }
 
     /// The register, over tables with so much room.
@@ -107,6 +107,7 @@ fn new_numbers(replicas: u32, readers: u32, message_room: usize, journal_room: u
     }
 }
 
+#[tactic(auto, unfolding(model::specs::Stamps::no_stamp))]
 fn new_writer() -> Writer
     ensures { result ≡ new_writer }
 {
@@ -118,6 +119,7 @@ fn new_writer() -> Writer
     }
 }
 
+#[tactic(auto, unfolding(model::specs::Stamps::no_stamp))]
 pub(super) fn new_replica<F: Copy>(figure: F) -> Replica<F>
     ensures { result ≡ new_replica figure }
 {
@@ -128,6 +130,7 @@ pub(super) fn new_replica<F: Copy>(figure: F) -> Replica<F>
     }
 }
 
+#[tactic(auto, unfolding(model::specs::Stamps::no_stamp))]
 pub(super) fn new_reader<F: Copy>(figure: F) -> Reader<F>
     ensures { result ≡ new_reader figure }
 {

@@ -11,8 +11,7 @@ impl<R: QuorumSystem + Drop, F: Copy> Draft<R, F> {
         ensures declines { declined result ≡ draft_refusal (R.QuorumSystem.size rule) readers }
         ensures makes { IfOk result (λ d. (d.rule ≡ rule) × (d.readers ≡ readers) × (d.start ≡ start)) }
     {
-        let replicas = rule.size();
-        if replicas < 1 || replicas > 24 || readers < 1 || readers > 32 {
+        if !(1..=24).contains(&rule.size()) || !(1..=32).contains(&readers) {
             return Err(RuleRefusal::OutOfLimits);
         }
         Ok(Draft {

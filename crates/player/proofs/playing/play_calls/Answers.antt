@@ -1,11 +1,6 @@
-use Rattle.std.proofs.Common.{length, refl, ap, ⊎_elim, arith}
+use Rattle.std.proofs.Common.{length, ap, ⊎_elim, arith}
 use Rattle.player.proofs.Answering.{answered_more, answered_none}
 use Rattle.player.proofs.playing.play_calls.Goals as goal
-
-pub loop-number-init : goal.loop-number-init
-loop-number-init g c =
-    rw (c.into_iter-number-iterator.ensures.into_iter_gives, c.zip-number-items.ensures.first, c.zip-number-items.ensures.second)
-    (refl, omega (arith, c.requires))
 
 pub loop-number-preserved : goal.loop-number-preserved
 loop-number-preserved g c =

@@ -1,5 +1,4 @@
-use Rattle.std.proofs.Common.{sym, ap}
-use Rattle.quorum.specs.Meaning.{rule_of}
+use Rattle.std.proofs.Common.{sym}
 use Rattle.register.proofs.Founding.{service, state_is, new_cluster}
 use Rattle.register.proofs.service.Draft.found.Goals as goal
 
@@ -13,7 +12,7 @@ returns-in-Ok g c =
     let s = service c.args.self _ _ fit c.in-Ok.tables c.in-Ok.ensures c.open.result c.open.ensures in (
       fit,
       record {
-        rule = ap (rule_of g.R.QuorumSystem) s.opened.rule;
+        rule = s.same_meaning;
         start = s.opened.start;
         state = state_is c.args.self _ _ fit c.in-Ok.tables c.in-Ok.ensures c.open.result c.open.ensures;
         begins = s.begins.grows;
