@@ -13,10 +13,13 @@ use crate::system::QuorumSystem;
 /// Groups of as many replicas each, numbered group by group, over any two rules.
 /// Round: the groups whose part is round by the inner rule are round by the outer one. Hold: likewise.
 #[derive(Drop)]
-pub struct Groups<O: QuorumSystem, I: QuorumSystem> {
+pub struct Groups<O, I> {
     outer: O,
     inner: I,
-    ghost ok: { Product (O.QuorumSystem.size outer) (I.QuorumSystem.size inner) },
+    // stored: no invariant of a rule speaks of a rule below it
+    groups: u32,
+    places: u32,
+    ghost ok: { Product groups places },
 }
 
 impl<O: QuorumSystem + Drop, I: QuorumSystem + Drop> Groups<O, I> {
@@ -24,16 +27,21 @@ impl<O: QuorumSystem + Drop, I: QuorumSystem + Drop> Groups<O, I> {
         ensures declines { declined result ≡ product_refusal (O.QuorumSystem.size outer) (I.QuorumSystem.size inner) }
         ensures makes { IfOk result (λ v.
             (v.outer ≡ outer) × (v.inner ≡ inner)
+            × (v.groups ≡ O.QuorumSystem.size outer) × (v.places ≡ I.QuorumSystem.size inner)
             × (Lawful (rule_of O.QuorumSystem outer) → Lawful (rule_of I.QuorumSystem inner)
-            → Lawful (grouped_rule (O.QuorumSystem.size v.outer) (I.QuorumSystem.size v.inner)
-            (rule_of O.QuorumSystem v.outer) (rule_of I.QuorumSystem v.inner)))) }
+            → Lawful (grouped_rule v.groups v.places (rule_of O.QuorumSystem v.outer) (rule_of I.QuorumSystem v.inner)))) }
     {
         let groups = outer.size();
         let places = inner.size();
         if !product_fits(groups, places) {
             return Err(RuleRefusal::OutOfLimits);
         }
-        Ok(Groups { outer, inner })
+        Ok(Groups {
+            outer,
+            inner,
+            groups,
+            places,
+        })
     }
 }
 
@@ -42,12 +50,11 @@ impl<O: QuorumSystem, I: QuorumSystem> Groups<O, I> {
     fn passing<P: Fn(u32) -> bool>(&self, test: P, members: u32) -> u32
         requires { P.IsAlwaysCallable test }
         ensures { (family : Family) → Judges (P.post test) family
-            → bits result ≡ grouped (O.QuorumSystem.size self.now.outer) (I.QuorumSystem.size self.now.inner) family (bits members) }
+            → bits result ≡ grouped self.now.groups self.now.places family (bits members) }
     {
-        let places = self.inner.size();
         let mut set = 0;
-        for g in 0..self.outer.size() {
-            let part = (members >> (g * places)) & below(places);
+        for g in 0..self.groups {
+            let part = (members >> (g * self.places)) & below(self.places);
             if test(part) {
                 set = joined(set, g);
             }
@@ -57,7 +64,7 @@ impl<O: QuorumSystem, I: QuorumSystem> Groups<O, I> {
 
     /// The groups whose part is round by the inner rule.
     fn round_groups(&self, members: u32) -> u32
-        ensures { bits result ≡ grouped (O.QuorumSystem.size self.now.outer) (I.QuorumSystem.size self.now.inner)
+        ensures { bits result ≡ grouped self.now.groups self.now.places
             (I.QuorumSystem.round self.now.inner) (bits members) }
     {
         self.passing(|part| self.inner.is_round(part), members)
@@ -65,7 +72,7 @@ impl<O: QuorumSystem, I: QuorumSystem> Groups<O, I> {
 
     /// The groups whose part is hold by the inner rule.
     fn hold_groups(&self, members: u32) -> u32
-        ensures { bits result ≡ grouped (O.QuorumSystem.size self.now.outer) (I.QuorumSystem.size self.now.inner)
+        ensures { bits result ≡ grouped self.now.groups self.now.places
             (I.QuorumSystem.hold self.now.inner) (bits members) }
     {
         self.passing(|part| self.inner.is_hold(part), members)
@@ -73,17 +80,14 @@ impl<O: QuorumSystem, I: QuorumSystem> Groups<O, I> {
 }
 
 impl<O: QuorumSystem, I: QuorumSystem> QuorumSystem for Groups<O, I> {
-    ghost size = { λ s. (grouped_rule (O.QuorumSystem.size s.outer) (I.QuorumSystem.size s.inner)
-        (rule_of O.QuorumSystem s.outer) (rule_of I.QuorumSystem s.inner)).size };
+    ghost size = { λ s. (grouped_rule s.groups s.places (rule_of O.QuorumSystem s.outer) (rule_of I.QuorumSystem s.inner)).size };
 
-    ghost round = { λ s. (grouped_rule (O.QuorumSystem.size s.outer) (I.QuorumSystem.size s.inner)
-        (rule_of O.QuorumSystem s.outer) (rule_of I.QuorumSystem s.inner)).round };
+    ghost round = { λ s. (grouped_rule s.groups s.places (rule_of O.QuorumSystem s.outer) (rule_of I.QuorumSystem s.inner)).round };
 
-    ghost hold = { λ s. (grouped_rule (O.QuorumSystem.size s.outer) (I.QuorumSystem.size s.inner)
-        (rule_of O.QuorumSystem s.outer) (rule_of I.QuorumSystem s.inner)).hold };
+    ghost hold = { λ s. (grouped_rule s.groups s.places (rule_of O.QuorumSystem s.outer) (rule_of I.QuorumSystem s.inner)).hold };
 
     fn size(&self) -> u32 {
-        self.outer.size() * self.inner.size()
+        self.groups * self.places
     }
 
     fn is_round(&self, members: u32) -> bool {

@@ -1,4 +1,4 @@
-ghost use Rattle.std.specs.Prelude.{◌≡◌, ◌<◌, ◌≤◌, IfOk};
+ghost use Rattle.std.specs.Prelude.{◌≡◌, IfOk};
 ghost use Rattle.quorum.specs.Meaning.{rule_of};
 ghost use Rattle.quorum.specs.Families.{lead_rule};
 ghost use Rattle.quorum.specs.Refusals.{declined, lead_refusal};
@@ -11,10 +11,9 @@ use crate::system::QuorumSystem;
 /// One replica leads, over any rule.
 /// Round: round below, with the lead. Hold: hold below, or any set with the lead.
 #[derive(Drop)]
-pub struct Lead<R: QuorumSystem> {
+pub struct Lead<R> {
     lead: u32,
     below: R,
-    ghost ok: { (lead < R.QuorumSystem.size below) × (R.QuorumSystem.size below ≤ 24) },
 }
 
 impl<R: QuorumSystem + Drop> Lead<R> {

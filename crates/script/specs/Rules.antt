@@ -22,7 +22,7 @@ abbrev pub meaning_of : ScriptRule → Rule
 meaning_of (ScriptRule.Count c) = count_of c
 meaning_of (ScriptRule.Grid g) = grid_rule g.rows g.columns
 meaning_of (ScriptRule.Lead l) = lead_rule (count_of l.below) l.lead
-meaning_of (ScriptRule.Groups g) = grouped_rule g.outer.size g.inner.size (count_of g.outer) (count_of g.inner)
+meaning_of (ScriptRule.Groups g) = grouped_rule g.groups g.places (count_of g.outer) (count_of g.inner)
 
 -- Whether a making answered a rule or a refusal, and which.
 abbrev pub made_rule : Result ScriptRule RuleRefusal → Result (Unit {0}) RuleRefusal
