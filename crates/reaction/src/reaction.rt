@@ -145,6 +145,7 @@ pub fn answer<F: Copy>(
 }
 
 /// An answer that carries nothing: the fields that it does not use hold stamp 0 and the starting figure.
+#[tactic(auto, unfolding(model::specs::Stamps::no_stamp))]
 pub fn bare_answer<F: Copy>(
     owner: Party,
     message: &Message<F>,
