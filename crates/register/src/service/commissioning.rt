@@ -91,6 +91,9 @@ pub(super) fn parties_fit<F: Copy>(
         && marks.len() == size as usize * width as usize
 }
 
+// New records, by functions and not by `Default`: a replica and a reader begin with the register's figure, and the types are
+// another crate's.
+
 /// The numbers of a new register.
 fn new_numbers(replicas: u32, readers: u32, message_room: usize, journal_room: usize) -> Numbers
     ensures { result ≡ new_numbers replicas readers message_room journal_room }

@@ -63,7 +63,7 @@ impl<R: QuorumSystem, F: Copy> Draft<R, F> {
     }
 }
 
-// A table of so many copies of an item.
+// A table of so many copies of an item. `vec![..; n]` would clone it, and `A: Copy` does not say that a clone is the item.
 fn filled<A: Copy>(heap: Global, count: usize, item: A) -> Result<Vec<A>, AllocError>
     ensures { IfOk result (λ v. (v.items ≡ replicate count item) × (vec_len v ≡ count)) }
 {
