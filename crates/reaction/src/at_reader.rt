@@ -52,15 +52,13 @@ fn lowers<F: Copy>(reader: &Reader<F>, message: &Message<F>) -> bool
 pub fn next_move<R: QuorumSystem, F: Copy>(rule: &R, kind: ReadKind, reader: &Reader<F>) -> Move
     ensures { result ≡ next_move (R.QuorumSystem.round rule.now) (R.QuorumSystem.hold rule.now) kind reader.now }
 {
-    if !rule.is_round(reader.replies) {
-        return Move::Wait;
-    }
-    match reader.phase {
-        Phase::Idle => Move::Wait,
-        Phase::First if kind == ReadKind::Quick && rule.is_hold(reader.holders) => Move::Finish(2),
-        Phase::First => Move::PlaceBest,
-        Phase::Second => Move::Finish(4),
-        Phase::Relay => Move::Finish(3),
+    match (kind, reader.phase) {
+        (ReadKind::Quick, Phase::First)
+            if rule.is_round(reader.replies) && rule.is_hold(reader.holders) => Move::Finish(2),
+        (_, Phase::First) if rule.is_round(reader.replies) => Move::PlaceBest,
+        (_, Phase::Second) if rule.is_round(reader.replies) => Move::Finish(4),
+        (_, Phase::Relay) if rule.is_round(reader.replies) => Move::Finish(3),
+        _ => Move::Wait,
     }
 }
 
