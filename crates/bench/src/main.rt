@@ -47,7 +47,7 @@ fn print(
     answer: Result<Reply<Tide>, ScriptFault>,
 ) -> anyhow::Result<()> {
     let mut buffer = [0u8; 80];
-    // a buffer of 80 bytes is never refused
+    // the printer writes into a lent buffer, and one of 80 bytes is never refused
     let end = print_answer(number, answer, &mut buffer).unwrap();
     rt.stdout().write_all(&buffer[..end])?;
     Ok(())

@@ -12,6 +12,7 @@ pub enum FigureFault {
 
 impl FigureFault {
     /// The number by which the fault is known.
+    // A match: the variants carry a field, so they have no numbers of their own.
     pub fn number(self) -> u8
         ensures { result ≡ fault_number self }
     {

@@ -45,6 +45,7 @@ pub trait FigureKind: Copy {
     fn read(cursor: FieldCursor<'_>) -> Result<Self, FigureFault>
         ensures { result ≡ reading (ahead cursor.entry) };
 
+    // Into the lent buffer, and so by no `Display`.
     /// Writes the figure at a place, and gives the place after it. There has to be room: a printer of a whole line
     /// tests its buffer once, and no figure takes more than 32 bytes.
     fn print(self, buffer: &mut [u8], at: usize) -> usize

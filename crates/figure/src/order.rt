@@ -72,7 +72,7 @@ impl DigOrder {
 }
 
 impl Arm {
-    // The arm that a word names.
+    // The arm that a word names. An `Option`, and no `TryFrom`: which field is at fault is the caller's to say.
     #[tactic(auto, unfolding(crate::specs::Orders::arm_of))]
     fn named(word: &[u8]) -> Option<Arm>
         ensures { result ≡ arm_of word.now }
@@ -98,7 +98,7 @@ impl Arm {
 }
 
 impl Verb {
-    // The verb that a word names.
+    // The verb that a word names. Read by name as an arm is, and so by no `TryFrom`.
     #[tactic(auto, unfolding(crate::specs::Orders::verb_of))]
     fn named(word: &[u8]) -> Result<Verb, FigureFault>
         ensures { result ≡ verb_of word.now }

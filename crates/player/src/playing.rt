@@ -49,7 +49,8 @@ fn play_script(heap: Global, script: &[u8]) -> Result<Vec<u8>, AllocError>
     Ok(out)
 }
 
-// Plays a script with this header, by the kind of figure.
+// Plays a script with this header, by the kind of figure. That its lines are few is asked here and below, since a cursor is
+// over any text.
 fn play_header(
     heap: Global,
     header: Header,

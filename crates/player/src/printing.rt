@@ -15,7 +15,7 @@ pub fn push_answer<F: FigureKind>(
     ensures { OnOk result (out.new.items ≡ out.old.items ++ line_shown F.FigureKind.shown number answer) }
 {
     let mut buffer = [0u8; 80];
-    // a buffer of 80 bytes is never refused
+    // the printer writes into a lent buffer, and one of 80 bytes is never refused
     let end = print_answer(number, answer, &mut buffer).unwrap();
     out.extend_from_slice(&buffer[..end])
 }

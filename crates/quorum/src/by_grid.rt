@@ -45,6 +45,7 @@ impl Grid {
     }
 
     /// Whether each column has a member: bit k of `any` says that column k has one.
+    // A loop of its own: the one above joins by `and`, from row 1 on, so a closure would leave nothing but the `for` in common.
     #[tactic(auto, using(crate::proofs::Columns::touched_none, crate::proofs::Columns::touched_more, crate::proofs::Columns::touched_found))]
     fn touches_columns(&self, members: u32) -> bool
         ensures { result ≡ every (column_touched self.now.rows self.now.columns (bits members))

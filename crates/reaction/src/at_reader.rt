@@ -10,6 +10,7 @@ use quorum::{QuorumSystem, has, joined};
 /// What a reader makes of a message from replica `sender`; true where the message counted.
 ///
 /// It counts for the reader's current operation, in the phase that it is meant for, once for each sender.
+// How low the sender's number is, each function here asks: a message is a record of a lent table, so no ghost field says it.
 pub fn hear<F: Copy>(reader: &mut Reader<F>, message: &Message<F>, sender: u32) -> bool
     requires { sender < 32 }
     ensures counted { result ≡ counts_for reader.old message.now sender }

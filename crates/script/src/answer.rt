@@ -11,6 +11,7 @@ use text::{put_bytes, put_number};
 
 /// Prints the answer to a line under the line's number into a buffer, and gives the number of bytes, at most 80. A buffer of
 /// less than 80 bytes is refused, and keeps what it held.
+// Into a lent buffer, and so by no `Display`: one that is too short is a fault of its own, and no heap is used.
 pub fn print_answer<F: FigureKind>(
     number: u32,
     answer: Result<Reply<F>, ScriptFault>,

@@ -69,7 +69,7 @@ fn read_in<F>(mut fields: FieldCursor<'_>) -> Result<Call<F>, TextFault>
     Ok(Call::Read(reader, kind))
 }
 
-// How a read goes, by its word.
+// How a read goes, by its word. An `Option`, and no `TryFrom`: which field is at fault is the caller's to say.
 #[tactic(auto, unfolding(crate::specs::Calls::read_kind))]
 fn read_kind(word: &[u8]) -> Option<ReadKind>
     ensures { result ≡ read_kind word.now }

@@ -68,6 +68,7 @@ impl From<Refusal> for ScriptFault {
 
 impl TextFault {
     /// The number by which the fault is known.
+    // A match: the variants carry what they are of, so they have no numbers of their own.
     pub fn number(self) -> u8
         ensures { result ≡ (text_report self).number }
     {
@@ -107,6 +108,7 @@ impl ScriptFault {
     }
 
     /// The number by which the fault is known.
+    // A match: the variants carry what they are of, so they have no numbers of their own.
     pub fn number(self) -> u8
         ensures { result ≡ (report self).number }
     {

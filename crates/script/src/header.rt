@@ -83,7 +83,7 @@ pub fn read_header(line: &[u8]) -> Result<Header, TextFault>
     header_rest(kind, readers, rule, fields)
 }
 
-// The rule that a word names.
+// The rule that a word names. An `Option`, and no `TryFrom`: which field is at fault is the caller's to say.
 #[tactic(auto, unfolding(crate::specs::Headers::rule_word))]
 fn rule_word(word: &[u8]) -> Option<RuleWord>
     ensures { result ≡ rule_word word.now }
@@ -97,7 +97,7 @@ fn rule_word(word: &[u8]) -> Option<RuleWord>
     }
 }
 
-// The kind of figure that a word names.
+// The kind of figure that a word names. An `Option`, and no `TryFrom`: which field is at fault is the caller's to say.
 #[tactic(auto, unfolding(crate::specs::Headers::kind_word))]
 fn kind_word(word: &[u8]) -> Option<Kind>
     ensures { result ≡ kind_word word.now }

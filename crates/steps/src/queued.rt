@@ -59,7 +59,7 @@ pub fn step_queued<R: QuorumSystem, F: Copy>(
     }
 }
 
-// Delivers the message at a place.
+// Delivers the message at a place. It is beside `deliver_message` since it promises less: nothing of places not in use.
 fn deliver_queued<R: QuorumSystem, F: Copy>(
     rule: &R,
     start: F,

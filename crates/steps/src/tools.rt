@@ -5,6 +5,8 @@ ghost use Rattle.steps.specs.Posting.{sent_to, carries};
 
 use model::{Message, Party};
 
+// How much of a table is in use goes beside it: it is lent whole, and what is not in use keeps what it held.
+
 /// Takes out what stands at a place of the first `used`, and lets the later ones move up.
 pub fn remove_at<A: Copy>(table: &mut [A], used: usize, at: usize)
     requires { (at < used) × (used ≤ length table.old) }
