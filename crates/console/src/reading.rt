@@ -1,4 +1,4 @@
-ghost use Rattle.std.specs.Prelude.{◌≡◌, take, IfOk, IfSome};
+ghost use Rattle.std.specs.Prelude.{◌≡◌, ◌≤◌, take, vec_len, IfOk, IfSome};
 
 use anyhow::anyhow;
 use std::alloc::Global;
@@ -9,8 +9,10 @@ use std::io::Read;
 // No more bytes of a script are read than suffice to decline it for its length.
 const MOST_BYTES: u64 = 65537;
 
-/// The script in the file of this name, or the one on standard input.
-pub fn read_script(rt: &HostRuntime, name: Option<&str>) -> anyhow::Result<Vec<u8>> {
+/// The script in the file of this name, or the one on standard input. What a file holds no clause can say.
+pub fn read_script(rt: &HostRuntime, name: Option<&str>) -> anyhow::Result<Vec<u8>>
+    ensures { IfOk result (λ v. vec_len v ≤ 65537) }
+{
     let Some(name) = name else {
         return Ok(read_at_most(rt.alloc(), rt.stdin(), MOST_BYTES)?);
     };
@@ -20,16 +22,20 @@ pub fn read_script(rt: &HostRuntime, name: Option<&str>) -> anyhow::Result<Vec<u
     }
 }
 
-fn read_file(rt: &HostRuntime, name: &str) -> io::Result<Vec<u8>> {
+fn read_file(rt: &HostRuntime, name: &str) -> io::Result<Vec<u8>>
+    ensures { IfOk result (λ v. vec_len v ≤ 65537) }
+{
     let file = File::open(rt, name)?;
     read_at_most(rt.alloc(), file, MOST_BYTES)
 }
 
 /// What there is to read, or the first bytes of it, if there are more than so many.
 pub fn read_at_most<R: Read + Drop>(alloc: Global, from: R, most: u64) -> io::Result<Vec<u8>>
-    ensures { IfOk result (λ v. IfSome (R.remaining from) (λ bytes. v.items ≡ take most bytes)) }
+    ensures bytes { IfOk result (λ v. IfSome (R.remaining from) (λ bytes. v.items ≡ take most bytes)) }
+    ensures few { IfOk result (λ v. vec_len v ≤ most) }
 {
     let mut read = Vec::new(alloc);
     from.take(most).read_to_end(&mut read)?;
+    read.truncate(most as usize);
     Ok(read)
 }
