@@ -28,11 +28,13 @@ pub trait FigureKind: Copy {
     ghost shown: { Self → List ℕ };
 
     /// The word that names the kind.
-    // A function here and below, and no constant or `Default`: its contract says that it is the ghost member.
+    // A function, and no constant: the ghost member of a constant says where the text lies, too, which no kind can say.
     fn word<'a>() -> &'a str
         ensures { result.now ≡ named };
 
     /// The figure before the first write.
+    // A function, and no constant: the check does not find the proof of a constant in which values with a ghost field
+    // stand. And no `Default`, which promises a predicate: here it is the ghost member itself.
     fn start() -> Self
         ensures { result ≡ starting };
 

@@ -57,8 +57,8 @@ impl FigureKind for Tide {
 
     fn start() -> Tide {
         Tide {
-            level: Level::zero(),
-            minute: Minute::zero(),
+            level: Level::default(),
+            minute: Minute::default(),
         }
     }
 

@@ -61,6 +61,7 @@ fn put_answer<F: FigureKind>(
     }
 }
 
+// `as` here and below, which is proved to lose nothing: with `From` the width of what is printed is not known.
 fn put_accepted(buffer: &mut [u8], at: usize, operation: u16) -> usize
     requires { at + 66 ≤ length buffer.old }
     ensures short { result ≤ at + 66 }

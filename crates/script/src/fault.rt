@@ -8,7 +8,7 @@ use model::Refusal;
 use quorum::RuleRefusal;
 
 /// Why a line is neither a header nor a call. Fields count from 0 at the line's first.
-#[derive(Clone, Copy, PartialEq, Debug)]
+#[derive(Clone, Copy, PartialEq, Eq, Debug)]
 pub enum TextFault {
     /// The line is too long, or has a byte that no text has.
     NotText,
@@ -23,7 +23,7 @@ pub enum TextFault {
 }
 
 /// Why a line of a script is declined, with its cause whole.
-#[derive(Clone, Copy, PartialEq, Debug)]
+#[derive(Clone, Copy, PartialEq, Eq, Debug)]
 pub enum ScriptFault {
     Text(TextFault),
     /// The rule, or the draft of a register, is refused.
@@ -82,6 +82,7 @@ impl TextFault {
     }
 
     /// The field found wrong, or 0 where the fault names none. A figure's first field is field 1 of its line.
+    // A plain number, 0 where the fault names none, since the line's format prints 0 there.
     pub fn field(self) -> u32
         ensures { result ≡ (text_report self).field }
     {
@@ -121,6 +122,7 @@ impl ScriptFault {
     }
 
     /// The field found wrong, or 0 where the fault names none.
+    // As above: the line's format prints 0 where the fault names none.
     pub fn field(self) -> u32
         ensures { result ≡ (report self).field }
     {

@@ -1,3 +1,4 @@
+pub mod Cutting
 pub mod Parting
 pub mod LineEnds
 pub mod Placed

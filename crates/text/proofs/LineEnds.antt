@@ -1,27 +1,36 @@
 -- Where the lines of a text end.
-use Rattle.std.proofs.Common.{◌≡◌, ℕ, zero, suc, ◌<◌, ◌≤◌, true, false, cond, eqb, List, [], ◌∷◌, length, get_or, take, drop, refl, ap, ◌∙◌, arith, eq-eqb, ne_eqb}
+use Rattle.std.proofs.Common.{◌≡◌, ℕ, suc, ◌<◌, ◌≤◌, true, false, cond, eqb, List, [], ◌∷◌, ◌++◌, append-nil, length, Some, None, Option, refl, ap, ◌∙◌, arith, ne_eqb}
+use Rattle.std.specs.Borrow.{Bor}
 use Rattle.std.specs.List.{onto_first}
+use Rattle.text.specs.Cuts.{Without, CutAt}
 use Rattle.text.specs.Lines.{lines}
 
 lines_plain : (c : ℕ) (cs : List ℕ) → (c ≡ 10 → ⊥) → lines (c ∷ cs) ≡ onto_first c (lines cs)
 lines_plain c cs h = rw (ne_eqb c 10 h)
 
-lines_end : (c : ℕ) (cs : List ℕ) → c ≡ 10 → lines (c ∷ cs) ≡ [] ∷ lines cs
-lines_end c cs h = rw (eq-eqb c 10 h)
-
 -- a text with no line end is its one line
-pub one_line : (l : List ℕ) → 0 < length l → ((k : ℕ) → k < length l → get_or l k 0 ≡ 10 → ⊥) → lines l ≡ l ∷ []
-one_line [] p h = absurd (omega arith)
-one_line (c ∷ []) p h = lines_plain c [] (h 0 (omega arith))
-one_line (c ∷ (d ∷ ds)) p h =
-    lines_plain c (d ∷ ds) (h 0 (omega arith)) ∙ ap (onto_first c) (one_line (d ∷ ds) (omega arith) (λ k lt e. h (suc k) (omega arith) e))
+lines_last : (a : List ℕ) → 0 < length a → Without 10 a → lines a ≡ a ∷ []
+lines_last [] p h = absurd (omega arith)
+lines_last (c ∷ []) p h = lines_plain c [] h.0
+lines_last (c ∷ (d ∷ ds)) p h = lines_plain c (d ∷ ds) h.0 ∙ ap (onto_first c) (lines_last (d ∷ ds) (omega arith) h.1)
 
 -- the first line end ends the first line
-pub first_line : (l : List ℕ) (n : ℕ) → ((k : ℕ) → k < n → get_or l k 0 ≡ 10 → ⊥) → n < length l → get_or l n 0 ≡ 10 → lines l ≡ take n l ∷ lines (drop (suc n) l)
-first_line [] n b h e = absurd (omega arith)
-first_line (c ∷ cs) zero b h e = lines_end c cs e
-first_line (c ∷ cs) (suc n) b h e =
-    lines_plain c cs (b 0 (omega arith)) ∙ ap (onto_first c) (first_line cs n (λ k lt. b (suc k) (omega arith)) (omega arith) e)
+lines_then : (a b : List ℕ) → Without 10 a → lines (a ++ (10 ∷ b)) ≡ a ∷ lines b
+lines_then [] b h = refl
+lines_then (c ∷ cs) b h = lines_plain c (cs ++ (10 ∷ b)) h.0 ∙ ap (onto_first c) (lines_then cs b h.1)
+
+-- the text behind a cut, which is empty where there is none
+abbrev pub after : Option (Bor (List ℕ)) → List ℕ
+after None = []
+after (Some rest) = rest.now
+
+-- the lines of a text, of which the first is cut off
+pub cut_lines : (text first : List ℕ) (rest : Option (Bor (List ℕ))) → 0 < length text → CutAt 10 text first rest
+    → lines text ≡ first ∷ lines (after rest)
+cut_lines text first None p h =
+    let one : text ≡ first = h.whole ∙ append-nil first in
+    ap lines one ∙ lines_last first (rw one at p) h.first
+cut_lines text first (Some rest) p h = ap lines h.whole ∙ lines_then first rest.now h.first
 
 onto_few : (c : ℕ) (fs : List (List ℕ)) → length (onto_first c fs) ≤ suc (length fs)
 onto_few c [] = omega arith

@@ -1,11 +1,7 @@
 -- Bytes written into a buffer, one part after another.
-use Rattle.std.proofs.Common.{◌≡◌, ℕ, ◌+◌, ◌<◌, ◌≤◌, List, [], ◌∷◌, ◌++◌, length, take, drop, set, sym, ap, ◌∙◌, subst, append_assoc, add-one, arith, length-append, length-take-le}
-use Rattle.std.proofs.lemmas.List.{set_split, take_at, drop_at, drop-drop}
+use Rattle.std.proofs.Common.{◌≡◌, ℕ, ◌+◌, ◌≤◌, List, ◌++◌, length, take, drop, sym, ap, ◌∙◌, subst, append_assoc, arith, length-append, length-take-le}
+use Rattle.std.proofs.lemmas.List.{take_at, drop_at, drop-drop}
 use Rattle.text.specs.Printing.{put, Printed}
-
--- one byte written
-pub put_one : (xs : List ℕ) (at b : ℕ) → at < length xs → set xs at b ≡ put xs at (b ∷ [])
-put_one xs at b h = set_split xs at b h ∙ rw (add-one at)
 
 front : (xs : List ℕ) (at : ℕ) (bs : List ℕ) → at + length bs ≤ length xs → length (take at xs ++ bs) ≡ at + length bs
 front xs at bs h = length-append (take at xs) bs ∙ ap (λ n. n + length bs) (length-take-le at xs (omega arith))

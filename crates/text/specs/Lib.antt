@@ -1,3 +1,4 @@
+pub mod Cuts
 pub mod Fields
 pub mod Cursors
 pub mod Lines

@@ -1,7 +1,9 @@
-ghost use Rattle.std.specs.Prelude.{◌≡◌, ◌<◌, [], ◌∷◌, length, drop};
+ghost use Rattle.std.specs.Prelude.{◌≡◌, ◌<◌, [], length, drop};
 ghost use Rattle.std.specs.Str.{bytes_eq};
-ghost use Rattle.text.specs.Fields.{fields, field_at, pending};
+ghost use Rattle.text.specs.Fields.{fields, field_at};
 ghost use Rattle.text.specs.Cursors.{ahead};
+
+use crate::cuts::cut_at;
 
 /// The fields of a line, one by one from the left. Tabs part them.
 // Not an `Iterator`: a missing field reads as an empty one, so that readers of a line take fields with no test.
@@ -37,16 +39,18 @@ impl<'a> FieldCursor<'a> {
     }
 
     /// The next field, which stays to come; an empty one where none is left.
+    #[tactic(auto, using(crate::proofs::Parting::cut_fields))]
     pub fn peek(&self) -> &'a [u8]
         ensures { result.now ≡ field_at (ahead self.now) 0 }
     {
         match self.rest {
-            Some(text) => cut(text).0,
+            Some(text) => cut_at(text, b'\t').0,
             None => b"",
         }
     }
 
     /// The next field; an empty one where none is left.
+    #[tactic(auto, using(crate::proofs::Parting::cut_fields))]
     pub fn next_field(&mut self) -> &'a [u8]
         ensures field { result.now ≡ field_at (ahead self.old) 0 }
         ensures rest { ahead self.new ≡ drop 1 (ahead self.old) }
@@ -54,7 +58,7 @@ impl<'a> FieldCursor<'a> {
         let Some(text) = self.rest else {
             return b"";
         };
-        let (field, rest) = cut(text);
+        let (field, rest) = cut_at(text, b'\t');
         self.rest = rest;
         field
     }
@@ -65,16 +69,6 @@ pub fn is_word(field: &[u8], word: &str) -> bool
     ensures { result ≡ bytes_eq field.now word.now }
 {
     field == word.as_bytes()
-}
-
-// The first field of a text, and what follows its tab.
-fn cut(text: &[u8]) -> (&[u8], Option<&[u8]>)
-    ensures { fields text.now ≡ result.0.now ∷ pending result.1 }
-{
-    match text.iter().position(|b| *b == b'\t') {
-        Some(end) => (&text[..end], Some(&text[end + 1..])),
-        None => (text, None),
-    }
 }
 
 // How many fields a text has.

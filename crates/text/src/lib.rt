@@ -3,6 +3,7 @@
 //! It knows nothing of what the lines say.
 #![tactic(auto)]
 
+mod cuts;
 mod fields;
 mod lines;
 mod numbers;

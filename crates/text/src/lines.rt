@@ -3,6 +3,8 @@ ghost use Rattle.std.specs.Iterator.{YieldsFirstRef, item_count};
 ghost use Rattle.text.specs.Lines.{lines, plain, is_text};
 ghost use Rattle.text.specs.LineCursors.{lines_ahead};
 
+use crate::cuts::cut_at;
+
 /// The lines of a text, one by one. Byte 10 ends a line; the last may lack it.
 #[derive(Drop)]
 pub struct LineCursor<'a> {
@@ -26,13 +28,14 @@ impl<'a> Iterator for LineCursor<'a> {
     ghost remaining = { item_count lines_ahead };
 
     /// The next line without its end, if there is one.
+    #[tactic(auto, using(crate::proofs::LineEnds::cut_lines))]
     fn next(&mut self) -> Option<&'a [u8]> {
         let text = self.rest;
         if text.is_empty() {
             return None;
         }
-        let (line, rest) = cut_line(text);
-        self.rest = rest;
+        let (line, rest) = cut_at(text, b'\n');
+        self.rest = rest.unwrap_or(b"");
         Some(line)
     }
 }
@@ -50,15 +53,4 @@ fn is_plain(byte: u8) -> bool
     ensures { result ≡ plain byte }
 {
     matches!(byte, b'\t' | b' '..=b'~')
-}
-
-// The first line of a text that is not empty, and what follows its end.
-fn cut_line(text: &[u8]) -> (&[u8], &[u8])
-    requires { 0 < length text.now }
-    ensures { lines text.now ≡ result.0.now ∷ lines result.1.now }
-{
-    match text.iter().position(|b| *b == b'\n') {
-        Some(end) => (&text[..end], &text[end + 1..]),
-        None => (text, b""),
-    }
 }

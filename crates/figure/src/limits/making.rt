@@ -7,15 +7,17 @@ use text::{number, signed_number};
 // The most that a level is above or below the datum, in mm.
 const FARTHEST: u32 = 20_000;
 
-impl<const MAX: u32> UpTo<MAX> {
+// Written by hand, since a struct with a ghost field derives no `Default`.
+impl<const MAX: u32> Default for UpTo<MAX> {
+    ghost is_default = { λ n. n ≡ up_to_zero MAX };
+
     /// The number 0, which is within every limit.
-    // No `Default`, which no struct with a ghost field derives.
-    pub(crate) fn zero() -> UpTo<MAX>
-        ensures { result ≡ up_to_zero MAX }
-    {
+    fn default() -> UpTo<MAX> {
         UpTo { value: 0 }
     }
+}
 
+impl<const MAX: u32> UpTo<MAX> {
     /// The number itself, if it is within the limit.
     #[tactic(auto, using(crate::specs::Limited::beyond))]
     pub fn new(value: u32) -> Option<UpTo<MAX>>
@@ -50,14 +52,16 @@ impl<const MAX: u32> UpTo<MAX> {
     }
 }
 
-impl Level {
+impl Default for Level {
+    ghost is_default = { λ level. level ≡ level_zero };
+
     /// The level 0.
-    pub(crate) fn zero() -> Level
-        ensures { result ≡ level_zero }
-    {
+    fn default() -> Level {
         Level { mm: 0 }
     }
+}
 
+impl Level {
     /// A number of mm as a level, if it is within the range.
     pub fn new(mm: i32) -> Option<Level>
         ensures { result ≡ level_of mm }
