@@ -1,4 +1,7 @@
 //! What each call does on tables that are known to be sound: exactly the model's step, at every place of the tables.
+//!
+//! The five tables are lent to each function as slices, not as one struct: they are the caller's memory, of fixed size, read
+//! by field and written whole, and a function borrows for writing only those that it alters. So the lists of parameters are long.
 #![tactic(auto)]
 
 mod applying;

@@ -37,7 +37,8 @@ pub fn append<A: Copy>(table: &mut [A], used: usize, item: A)
     table[used] = item;
 }
 
-/// Adds a copy of the message for each replica below `size`, in their order.
+/// Adds a copy of the message for each replica below `size`, in their order. The receiver that the message comes with is not
+/// looked at.
 pub fn send_all<F: Copy>(messages: &mut [Message<F>], used: usize, size: u32, message: Message<F>)
     requires { used + size ≤ length messages.old }
     ensures { messages.new ≡ stored (take used messages.old
