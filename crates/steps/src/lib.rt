@@ -16,7 +16,7 @@ mod transit;
 
 pub use delivering::deliver_message;
 pub use halting::halt_party;
-pub use queued::{Queued, step_queued};
+pub use queued::step_queued;
 pub use starting::{start_read, start_write};
 pub use stepping::step;
 pub use transit::{drop_message, duplicate_message};
