@@ -24,7 +24,7 @@ pub fn offered<F: Copy>(replica: Replica<F>, message: &Message<F>) -> Replica<F>
 /// Notes in the mark that replica `sender` relayed for the operation; false where the mark serves a later one.
 ///
 /// A higher operation restarts the mark.
-// The mark changes in place; the answer is whether it did.
+// The same form as `acknowledge` and `hear`: an `Option` of the new mark would be taken apart at once by the one caller.
 pub fn relayed(mark: &mut RelayMark, operation: u16, sender: u32) -> bool
     requires { sender < 32 }
     ensures counted { result ≡ not (outdated mark.old operation) }
@@ -78,6 +78,7 @@ pub fn to_mark<R: QuorumSystem, F: Copy>(
 }
 
 /// What a message does that reaches replica c, in an operation of this owner. Each replica has `width` marks.
+// Eight parameters: they come from three lent tables and the numbers, and a struct of them would be taken apart again at once.
 pub fn to_replica<R: QuorumSystem, F: Copy>(
     rule: &R,
     start: F,

@@ -33,6 +33,7 @@ pub struct Finish<F> {
 
 /// What a delivered message does: which records change, each with its place and its new content, what finishes, and what
 /// is sent. It is worked out before anything is altered.
+// No enum of cases: which records change is decided field by field, and each field is applied by one `change`.
 #[derive(Clone, Copy)]
 pub struct Reaction<F> {
     pub replica: Option<(usize, Replica<F>)>,

@@ -9,7 +9,7 @@ ghost use Rattle.reaction.specs.Applied.{sent_by, applied, Applicable};
 ghost use Rattle.tables.specs.View.{rule_for};
 
 use crate::applying::{change, finish_operation, post, post_count};
-use crate::tools::remove_at;
+use crate::tools::{place_of, remove_at};
 use model::{Message, Operation, Reader, Refusal, RelayMark, Replica, Reply};
 use quorum::QuorumSystem;
 use reaction::{Reaction, react};
@@ -66,10 +66,7 @@ pub fn plan_delivery<R: QuorumSystem, F: Copy>(
     ensures { Plan (rule_for R.QuorumSystem rule.now numbers.now.replicas) start numbers.now
         (tables replicas.now readers.now marks.now messages.now journal.now) place result }
 {
-    let at = place as usize;
-    if at >= numbers.waiting {
-        return Err(Refusal::NoMessage);
-    }
+    let at = place_of(numbers, place)?;
     let message = messages[at];
     if message.stamp > numbers.writer.last {
         return Err(Refusal::StampAhead);

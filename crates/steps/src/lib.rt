@@ -1,4 +1,7 @@
 //! What each call does on tables that are known to be sound: exactly the model's step, at every place of the tables.
+//!
+//! The five tables are lent to each function as slices, not as one struct: they are the caller's memory, of fixed size, read
+//! by field and written whole, and a function borrows for writing only those that it alters. So the lists of parameters are long.
 #![tactic(auto)]
 
 mod applying;
@@ -13,7 +16,7 @@ mod transit;
 
 pub use delivering::deliver_message;
 pub use halting::halt_party;
-pub use queued::{Queued, step_queued};
+pub use queued::step_queued;
 pub use starting::{start_read, start_write};
 pub use stepping::step;
 pub use transit::{drop_message, duplicate_message};

@@ -3,7 +3,8 @@ ghost use Rattle.model.specs.State.{without};
 
 use crate::tools::remove_at;
 
-// No VecDeque: its contents are two slices, and the steps read and write one.
+// No VecDeque: the steps read and write one slice, and `make_contiguous` would move all waiting messages at a call, which the
+// window avoids. Pushing may also ask for memory, which a call that cannot fail must not.
 
 /// Takes out what stands at a place of a table that begins at `head` of a buffer, and of which the first `used` places are in
 /// use. Gives where the table begins then. Those move that are fewer: the later ones up, or the earlier ones back.

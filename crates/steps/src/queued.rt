@@ -14,14 +14,8 @@ use quorum::QuorumSystem;
 use reaction::Reaction;
 use tables::Numbers;
 
-/// The answer to a call, and where the table of messages begins then, whatever the answer.
-#[derive(Clone, Copy)]
-pub struct Queued<F> {
-    pub reply: Result<Reply<F>, Refusal>,
-    pub head: usize,
-}
-
-/// Any call on tables that are known to be sound, where the table of messages begins at `head` of a buffer.
+/// Any call on tables that are known to be sound, where the table of messages begins at `head` of a buffer. A delivery may move
+/// where it begins.
 pub fn step_queued<R: QuorumSystem, F: Copy>(
     rule: &R,
     start: F,
@@ -30,19 +24,19 @@ pub fn step_queued<R: QuorumSystem, F: Copy>(
     readers: &mut [Reader<F>],
     marks: &mut [RelayMark],
     buffer: &mut [Message<F>],
-    head: usize,
+    head: &mut usize,
     journal: &mut [Operation<F>],
     call: Call<F>,
-) -> Queued<F>
+) -> Result<Reply<F>, Refusal>
     requires kept { Kept numbers.old }
-    requires within { head + numbers.old.message_room ≤ length buffer.old }
+    requires within { head.old + numbers.old.message_room ≤ length buffer.old }
     requires slack { numbers.old.message_room < length buffer.old }
-    requires fits { Fitting numbers.old (tables replicas.old readers.old marks.old (window head numbers.old.message_room buffer.old) journal.old) }
-    requires sound { is_sound (rule_for R.QuorumSystem rule.now numbers.old.replicas) (view start numbers.old (tables replicas.old readers.old marks.old (window head numbers.old.message_room buffer.old) journal.old)) ≡ true }
-    ensures within { result.head + numbers.old.message_room ≤ length buffer.old }
+    requires fits { Fitting numbers.old (tables replicas.old readers.old marks.old (window head.old numbers.old.message_room buffer.old) journal.old) }
+    requires sound { is_sound (rule_for R.QuorumSystem rule.now numbers.old.replicas) (view start numbers.old (tables replicas.old readers.old marks.old (window head.old numbers.old.message_room buffer.old) journal.old)) ≡ true }
+    ensures within { head.new + numbers.old.message_room ≤ length buffer.old }
     ensures advances { Advances start
-        (judged (rule_for R.QuorumSystem rule.now numbers.old.replicas) (view start numbers.old (tables replicas.old readers.old marks.old (window (head) numbers.old.message_room buffer.old) journal.old)) (call))
-        numbers.old result.reply numbers.new (tables replicas.new readers.new marks.new (window result.head numbers.old.message_room buffer.new) journal.new) }
+        (judged (rule_for R.QuorumSystem rule.now numbers.old.replicas) (view start numbers.old (tables replicas.old readers.old marks.old (window head.old numbers.old.message_room buffer.old) journal.old)) (call))
+        numbers.old result numbers.new (tables replicas.new readers.new marks.new (window head.new numbers.old.message_room buffer.new) journal.new) }
 {
     match call {
         Call::Deliver(place) => deliver_queued(
@@ -50,11 +44,10 @@ pub fn step_queued<R: QuorumSystem, F: Copy>(
         ),
         other => {
             let room = numbers.message_room;
-            let messages = &mut buffer[head..head + room];
-            let reply = step(
+            let messages = &mut buffer[*head..*head + room];
+            step(
                 rule, start, numbers, replicas, readers, marks, messages, journal, other,
-            );
-            Queued { reply, head }
+            )
         }
     }
 }
@@ -68,41 +61,30 @@ fn deliver_queued<R: QuorumSystem, F: Copy>(
     readers: &mut [Reader<F>],
     marks: &mut [RelayMark],
     buffer: &mut [Message<F>],
-    head: usize,
+    head: &mut usize,
     journal: &mut [Operation<F>],
     place: u32,
-) -> Queued<F>
+) -> Result<Reply<F>, Refusal>
     requires kept { Kept numbers.old }
-    requires within { head + numbers.old.message_room ≤ length buffer.old }
+    requires within { head.old + numbers.old.message_room ≤ length buffer.old }
     requires slack { numbers.old.message_room < length buffer.old }
-    requires fits { Fitting numbers.old (tables replicas.old readers.old marks.old (window head numbers.old.message_room buffer.old) journal.old) }
-    requires sound { is_sound (rule_for R.QuorumSystem rule.now numbers.old.replicas) (view start numbers.old (tables replicas.old readers.old marks.old (window head numbers.old.message_room buffer.old) journal.old)) ≡ true }
-    ensures within { result.head + numbers.old.message_room ≤ length buffer.old }
+    requires fits { Fitting numbers.old (tables replicas.old readers.old marks.old (window head.old numbers.old.message_room buffer.old) journal.old) }
+    requires sound { is_sound (rule_for R.QuorumSystem rule.now numbers.old.replicas) (view start numbers.old (tables replicas.old readers.old marks.old (window head.old numbers.old.message_room buffer.old) journal.old)) ≡ true }
+    ensures within { head.new + numbers.old.message_room ≤ length buffer.old }
     ensures advances { Advances start
-        (judged (rule_for R.QuorumSystem rule.now numbers.old.replicas) (view start numbers.old (tables replicas.old readers.old marks.old (window (head) numbers.old.message_room buffer.old) journal.old)) (ModelCall.Deliver place))
-        numbers.old result.reply numbers.new (tables replicas.new readers.new marks.new (window result.head numbers.old.message_room buffer.new) journal.new) }
+        (judged (rule_for R.QuorumSystem rule.now numbers.old.replicas) (view start numbers.old (tables replicas.old readers.old marks.old (window head.old numbers.old.message_room buffer.old) journal.old)) (ModelCall.Deliver place))
+        numbers.old result numbers.new (tables replicas.new readers.new marks.new (window head.new numbers.old.message_room buffer.new) journal.new) }
 {
     let room = numbers.message_room;
-    match plan_queued(
-        rule, start, numbers, replicas, readers, marks, buffer, head, journal, place,
-    ) {
-        Err(refusal) => Queued {
-            reply: Err(refusal),
-            head,
-        },
-        Ok(reaction) => {
-            let head = take_out(buffer, head, room, numbers.waiting, place as usize);
-            numbers.waiting -= 1;
-            let messages = &mut buffer[head..head + room];
-            let reply = apply(
-                numbers, replicas, readers, marks, messages, journal, reaction,
-            );
-            Queued {
-                reply: Ok(reply),
-                head,
-            }
-        }
-    }
+    let reaction = plan_queued(
+        rule, start, numbers, replicas, readers, marks, buffer, *head, journal, place,
+    )?;
+    *head = take_out(buffer, *head, room, numbers.waiting, place as usize);
+    numbers.waiting -= 1;
+    let messages = &mut buffer[*head..*head + room];
+    Ok(apply(
+        numbers, replicas, readers, marks, messages, journal, reaction,
+    ))
 }
 
 // What the delivery will do, or why it is declined. A call of its own lends the part of the buffer that is read.

@@ -121,10 +121,7 @@ fn may_read<F: Copy>(
     ensures verdict { result_err result ≡ first_of (read_tests start numbers.now readers.now reader) }
     ensures clear { OnOk result (ReadClear numbers.now readers.now reader) }
 {
-    if reader as usize >= readers.len() {
-        return Err(Refusal::NoSuchParty);
-    }
-    let row = readers[reader as usize];
+    let row = readers.get(reader as usize).ok_or(Refusal::NoSuchParty)?;
     if row.halted {
         return Err(Refusal::Halted);
     }

@@ -1,9 +1,23 @@
-ghost use Rattle.std.specs.Prelude.{◌≡◌, ◌+◌, ◌-◌, ◌<◌, ◌≤◌, [], ◌∷◌, ◌++◌, length, take};
+ghost use Rattle.std.specs.Prelude.{◌≡◌, ◌+◌, ◌-◌, ◌<◌, ◌≤◌, [], ◌∷◌, ◌++◌, length, take, MatchResult};
 ghost use Rattle.model.specs.State.{stored, without};
 ghost use Rattle.model.specs.Deliveries.{to_all};
+ghost use Rattle.model.specs.declared.answers.Refusal.{Refusal as ModelRefusal};
 ghost use Rattle.steps.specs.Posting.{sent_to, carries};
 
-use model::{Message, Party};
+use model::{Message, Party, Refusal};
+use tables::Numbers;
+
+/// The place of a message, if one waits there.
+pub fn place_of(numbers: &Numbers, place: u32) -> Result<usize, Refusal>
+    ensures { MatchResult result (λ at. (at ≡ place) × (place < numbers.now.waiting))
+        (λ e. (e ≡ ModelRefusal.NoMessage) × (numbers.now.waiting ≤ place)) }
+{
+    let at = place as usize;
+    if at >= numbers.waiting {
+        return Err(Refusal::NoMessage);
+    }
+    Ok(at)
+}
 
 // How much of a table is in use goes beside it: it is lent whole, and what is not in use keeps what it held.
 
@@ -23,7 +37,8 @@ pub fn append<A: Copy>(table: &mut [A], used: usize, item: A)
     table[used] = item;
 }
 
-/// Adds a copy of the message for each replica below `size`, in their order.
+/// Adds a copy of the message for each replica below `size`, in their order. The receiver that the message comes with is not
+/// looked at.
 pub fn send_all<F: Copy>(messages: &mut [Message<F>], used: usize, size: u32, message: Message<F>)
     requires { used + size ≤ length messages.old }
     ensures { messages.new ≡ stored (take used messages.old

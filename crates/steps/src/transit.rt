@@ -8,7 +8,7 @@ ghost use Rattle.model.specs.declared.journal.Operation.{Operation as JournalRow
 ghost use Rattle.tables.specs.View.{tables, view, Kept};
 ghost use Rattle.steps.specs.Doing.{judged, Does};
 
-use crate::tools::{append, remove_at};
+use crate::tools::{append, place_of, remove_at};
 use model::{Message, Refusal, Reply};
 use tables::Numbers;
 
@@ -28,10 +28,7 @@ pub fn drop_message<F: Copy>(
         result
         numbers.new (tables rs ds ks messages.new ls) }
 {
-    let at = place as usize;
-    if at >= numbers.waiting {
-        return Err(Refusal::NoMessage);
-    }
+    let at = place_of(numbers, place)?;
     remove_at(messages, numbers.waiting, at);
     numbers.waiting -= 1;
     Ok(Reply::Done)
@@ -53,10 +50,7 @@ pub fn duplicate_message<F: Copy>(
         result
         numbers.new (tables rs ds ks messages.new ls) }
 {
-    let at = place as usize;
-    if at >= numbers.waiting {
-        return Err(Refusal::NoMessage);
-    }
+    let at = place_of(numbers, place)?;
     if numbers.waiting >= numbers.message_room {
         return Err(Refusal::NoRoom);
     }

@@ -1,8 +1,8 @@
 use model::Writer;
 
 /// The register's own state beside the tables: the writer, how long the tables are, and how much of them is in use.
-// What holds of it, `Kept`, stands in contracts and is no ghost field: definitions make such records anew, also of a start
-// that is then declined, and each would have to bring the proof.
+// What holds of it, `Kept`, stands in contracts and is no ghost field: then each definition that makes numbers anew, as a step
+// does, would carry a proof, in specs/, where a reader is to read values.
 #[derive(Clone, Copy)]
 pub struct Numbers {
     pub writer: Writer,

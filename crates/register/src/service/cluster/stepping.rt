@@ -11,7 +11,7 @@ impl<R: QuorumSystem, F: Copy> Cluster<R, F> {
         ensures { Steps call self.old result self.new }
     {
         let Cluster { register, tables } = self;
-        let queued = step_queued(
+        step_queued(
             &register.rule,
             register.start,
             &mut register.numbers,
@@ -19,11 +19,9 @@ impl<R: QuorumSystem, F: Copy> Cluster<R, F> {
             &mut tables.readers,
             &mut tables.marks,
             &mut tables.queue,
-            tables.head,
+            &mut tables.head,
             &mut tables.journal,
             call,
-        );
-        tables.head = queued.head;
-        queued.reply
+        )
     }
 }

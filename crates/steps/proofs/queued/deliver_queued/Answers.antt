@@ -10,28 +10,28 @@ use Rattle.steps.proofs.queued.deliver_queued.Goals as goal
 
 pub offset_bounds-buffer-head : goal.offset_bounds-buffer-head
 offset_bounds-buffer-head g c =
-    let low : c.take_out-head.result ≤ length c.args.buffer.now = omega (arith, c.take_out-head.ensures.within) in
+    let low : c.take_out.result ≤ length c.args.buffer.now = omega (arith, c.take_out.ensures.within) in
     search (rules, scaled_fits≤)
 
-pub returns-in-Ok-clause-advances : goal.returns-in-Ok-clause-advances
-returns-in-Ok-clause-advances g c =
+pub returns-clause-advances : goal.returns-clause-advances
+returns-clause-advances g c =
     let n = c.args.numbers.now in
     let start = c.args.start in
     let room = n.message_room in
-    let t = tables c.args.replicas.now c.args.readers.now c.args.marks.now (window c.args.head room c.args.buffer.now) c.args.journal.now in
-    let head = c.take_out-head.result in
-    let buffer = c.take_out-head.new.buffer in
-    let within : head + room ≤ length buffer = omega (arith, c.take_out-head.ensures.within, c.take_out-head.auto.buffer) in
+    let t = tables c.args.replicas.now c.args.readers.now c.args.marks.now (window c.args.head.now room c.args.buffer.now) c.args.journal.now in
+    let head = c.take_out.result in
+    let buffer = c.take_out.new.buffer in
+    let within : head + room ≤ length buffer = omega (arith, c.take_out.ensures.within, c.take_out.auto.buffer) in
     let n₁ = with_waiting n (n.waiting - 1) in
     let t₁ = tables c.args.replicas.now c.args.readers.now c.args.marks.now (window head room buffer) c.args.journal.now in
     let e : head + room - head ≡ room = omega arith in
-    let does = rw e at (c.apply-reply.ensures start) in
+    let does = rw e at (c.apply.ensures start) in
     let gone = ap (λ (ms : List _). with_messages (view start n t) ms)
-    (window_gone c.args.buffer.now buffer c.args.head head room room n.waiting c.args.place refl c.requires.kept.room c.take_out-head.ensures.gone) in
-    rw (window_back head room (head + room - head) buffer c.apply-reply.new.messages (omega (arith, within)) (c.apply-reply.auto.messages ∙ part_long buffer head room within))
+    (window_gone c.args.buffer.now buffer c.args.head.now head room room n.waiting c.args.place refl c.requires.kept.room c.take_out.ensures.gone) in
+    rw (window_back head room (head + room - head) buffer c.apply.new.messages (omega (arith, within)) (c.apply.auto.messages ∙ part_long buffer head room within))
     (record {
-      answer = delivered_answer _ start n t c.args.place c.in-Ok.reaction c.in-Ok.ensures n₁ t₁ gone _ _ _ does;
-      state = delivered_state _ start n t c.args.place c.in-Ok.reaction c.in-Ok.ensures n₁ t₁ gone _ _ _ does;
+      answer = delivered_answer _ start n t c.args.place c.in_ok-reaction.reaction c.in_ok-reaction.ensures n₁ t₁ gone _ _ _ does;
+      state = delivered_state _ start n t c.args.place c.in_ok-reaction.reaction c.in_ok-reaction.ensures n₁ t₁ gone _ _ _ does;
       kept = does.kept;
       sizes = record { replicas = does.sizes.replicas; readers = does.sizes.readers; message_room = does.sizes.message_room; journal_room = does.sizes.journal_room };
     })

@@ -6,23 +6,23 @@ use Rattle.steps.proofs.queued.step_queued.Goals as goal
 
 pub offset_bounds-buffer-head : goal.offset_bounds-buffer-head
 offset_bounds-buffer-head g c =
-    let low : c.args.head ≤ length c.args.buffer.now = omega (arith, c.requires.within) in
+    let low : c.args.head.now ≤ length c.args.buffer.now = omega (arith, c.requires.within) in
     search (rules, scaled_fits≤)
 
 pub returns-in_default : goal.returns-in_default
 returns-in_default g c =
     let n = c.args.numbers.now in
     let room = n.message_room in
-    let head = c.args.head in
+    let head = c.args.head.now in
     let e : head + room - head ≡ room = omega arith in
-    let does = rw e at c.step-reply.ensures in
-    let back = window_back head room (head + room - head) c.args.buffer.now c.step-reply.new.messages (omega (arith, c.requires.within)) (c.step-reply.auto.messages ∙ part_long c.args.buffer.now head room c.requires.within) in
+    let does = rw e at c.step.ensures in
+    let back = window_back head room (head + room - head) c.args.buffer.now c.step.new.messages (omega (arith, c.requires.within)) (c.step.auto.messages ∙ part_long c.args.buffer.now head room c.requires.within) in
     record {
       within = c.requires.within;
       advances = record {
         answer = does.answer;
         state =
-            ap (λ (ms : List _). view c.args.start c.step-reply.new.numbers (tables c.step-reply.new.replicas c.step-reply.new.readers c.step-reply.new.marks ms c.step-reply.new.journal)) back
+            ap (λ (ms : List _). view c.args.start c.step.new.numbers (tables c.step.new.replicas c.step.new.readers c.step.new.marks ms c.step.new.journal)) back
             ∙ does.state;
         kept = does.kept;
         sizes = does.sizes;

@@ -1,12 +1,12 @@
 use Rattle.std.proofs.Common.{refl, ◌∙◌}
 use Rattle.register.proofs.Owned.{Loan, still, steps}
 use Rattle.register.proofs.service.cluster.Cluster.call.Given.{Over}
-use Rattle.register.proofs.service.cluster.Cluster.call.Goals.{After-step_queued-queued}
+use Rattle.register.proofs.service.cluster.Cluster.call.Goals.{After-step_queued}
 use Rattle.register.proofs.service.cluster.Cluster.call.Goals as goal
 
-abbrev loan : (g : Over) (c : After-step_queued-queued g) → Loan c.args.self.now.tables
+abbrev loan : (g : Over) (c : After-step_queued g) → Loan c.args.self.now.tables
 loan g c =
-    let r = c.step_queued-queued in
+    let r = c.step_queued in
     record {
       lent = record {
         replicas = c.deref_mut.result.now;
@@ -41,12 +41,12 @@ loan g c =
 
 pub invariant_of-self : goal.invariant_of-self
 invariant_of-self g c =
-    let r = c.step_queued-queued in
-    still c.args.self.now c.args.call (loan g (goal.at.invariant_of-self g c).After-step_queued-queued) r.result.reply r.result.head
+    let r = c.step_queued in
+    still c.args.self.now c.args.call (loan g (goal.at.invariant_of-self g c).After-step_queued) r.result r.new.head
     r.new.numbers r.ensures.within r.ensures.advances
 
 pub returns : goal.returns
 returns g c =
-    let r = c.step_queued-queued in
-    steps c.args.self.now c.args.call (loan g (goal.at.returns g c).After-step_queued-queued) r.result.reply r.result.head
+    let r = c.step_queued in
+    steps c.args.self.now c.args.call (loan g (goal.at.returns g c).After-step_queued) r.result r.new.head
     r.new.numbers r.ensures.within r.ensures.advances _ refl refl refl
