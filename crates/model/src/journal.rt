@@ -18,7 +18,7 @@ pub enum OperationKind {
 }
 
 /// A line of the journal. Events count starts and finishes; `finished` and `exchanges` are 0 until it has finished.
-// 0 and no `Option`: the journal is a table of the caller's, whose format is plain numbers.
+// 0 and no `Option`: the journal is a table of the caller's, whose format has 0 for not yet.
 #[derive(Clone, Copy)]
 pub struct Operation<F> {
     pub kind: OperationKind,

@@ -20,6 +20,7 @@ pub enum MessageKind {
 }
 
 /// A message in flight, sent for an operation.
+// No `Option` of stamp and figure: the tables' format has 0 and the starting figure where a kind of message has no use for them.
 #[derive(Clone, Copy)]
 pub struct Message<F> {
     pub kind: MessageKind,

@@ -1,6 +1,6 @@
 /// The writer: the stamp of its last write, its current operation (0 if none) and who has acknowledged that.
-// 0 and no `Option`: a message's operation is compared with it as it stands, as with a reader's.
-#[derive(Clone, Copy)]
+// 0 and no `Option`: the rules ask of the writer's operation what they ask of a reader's, and that stands so in a lent table.
+#[derive(Clone, Copy, Default)]
 pub struct Writer {
     pub halted: bool,
     pub last: u32,

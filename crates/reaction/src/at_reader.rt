@@ -3,7 +3,7 @@ ghost use Rattle.model.specs.State.{index as index_of};
 ghost use Rattle.reaction.specs.Reactions.{counts as counts_for, after_message, lowers as lowers_best, next_move};
 ghost use Rattle.reaction.specs.Reactions.{moved as moved_to, to_reader};
 
-use crate::reaction::{Finish, Move, Post, Reaction, index};
+use crate::reaction::{Finish, Move, Post, Reaction};
 use model::{Message, MessageKind, OperationKind, Party, Phase, ReadKind, Reader};
 use quorum::{QuorumSystem, has, joined};
 
@@ -106,7 +106,7 @@ pub fn to_reader<R: QuorumSystem, F: Copy>(
     requires { index_of message.now.sender < 32 }
     ensures { result ≡ to_reader (R.QuorumSystem.round rule.now) (R.QuorumSystem.hold rule.now) place reader kind message.now }
 {
-    if reader.halted || !hear(&mut reader, message, index(message.sender)) {
+    if reader.halted || !hear(&mut reader, message, message.sender.index()) {
         return Reaction::nothing();
     }
     let OperationKind::Read(kind) = kind else {

@@ -2,7 +2,7 @@ ghost use Rattle.std.specs.Prelude.{◌≡◌, ◌+◌, ◌*◌, ◌<◌, ◌≤
 ghost use Rattle.model.specs.State.{index as index_of};
 ghost use Rattle.reaction.specs.Reactions.{noted, offered as after_offer, outdated, to_mark, to_replica};
 
-use crate::reaction::{Post, Reaction, answer, bare_answer, index};
+use crate::reaction::{Post, Reaction, answer, bare_answer};
 use model::{Message, MessageKind, Party, RelayMark, Replica};
 use quorum::{QuorumSystem, joined};
 
@@ -60,7 +60,7 @@ pub fn to_mark<R: QuorumSystem, F: Copy>(
     requires { index_of message.now.sender < 32 }
     ensures { result ≡ to_mark (R.QuorumSystem.round rule.now) c replica owner message.now place mark }
 {
-    if !relayed(&mut mark, message.operation, index(message.sender)) {
+    if !relayed(&mut mark, message.operation, message.sender.index()) {
         return Reaction::at_replica(c, replica, None, Post::Nothing);
     }
     if rule.is_round(mark.relayers) && !mark.replied {
@@ -123,7 +123,7 @@ pub fn to_replica<R: QuorumSystem, F: Copy>(
             figure: replica.figure,
         }),
         MessageKind::Relay => {
-            let place = (c * width + index(owner)) as usize;
+            let place = (c * width + owner.index()) as usize;
             to_mark(
                 rule,
                 c,

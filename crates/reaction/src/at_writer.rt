@@ -3,7 +3,7 @@ ghost use Rattle.model.specs.State.{index as index_of};
 ghost use Rattle.model.specs.Records.{acknowledged};
 ghost use Rattle.reaction.specs.Reactions.{to_writer};
 
-use crate::reaction::{Finish, Reaction, index};
+use crate::reaction::{Finish, Reaction};
 use model::{Message, Operation, Writer};
 use quorum::{QuorumSystem, joined};
 
@@ -31,7 +31,7 @@ pub fn to_writer<R: QuorumSystem, F: Copy>(
     requires { index_of message.now.sender < 32 }
     ensures { result ≡ to_writer (R.QuorumSystem.round rule.now) writer line.now message.now }
 {
-    if writer.halted || !acknowledge(&mut writer, message.operation, index(message.sender)) {
+    if writer.halted || !acknowledge(&mut writer, message.operation, message.sender.index()) {
         return Reaction::nothing();
     }
     if !rule.is_round(writer.acknowledgers) {

@@ -1,5 +1,5 @@
 ghost use Rattle.std.specs.Prelude.{◌≡◌};
-ghost use Rattle.model.specs.State.{index as index_of, unused};
+ghost use Rattle.model.specs.State.{unused};
 ghost use Rattle.reaction.specs.Reactions.{nothing as no_reaction, posting as only_post, at_replica as replica_reaction};
 ghost use Rattle.reaction.specs.Reactions.{at_reader as reader_reaction, at_writer as writer_reaction, answer_to};
 
@@ -156,15 +156,4 @@ pub fn bare_answer<F: Copy>(
     ensures { result ≡ answer_to owner message.now kind (unused start) }
 {
     answer(owner, message, kind, 0, start)
-}
-
-/// The number of a party among its kind; the writer's is 0.
-// A function, since the enum is another crate's, and a trait for one method would be longer.
-pub fn index(party: Party) -> u32
-    ensures { result ≡ index_of party }
-{
-    match party {
-        Party::Writer => 0,
-        Party::Reader(number) | Party::Replica(number) => number,
-    }
 }

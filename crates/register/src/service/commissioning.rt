@@ -1,5 +1,5 @@
 ghost use Rattle.std.specs.Prelude.{◌≡◌, ◌*◌, true, length};
-ghost use Rattle.model.specs.State.{new_writer, new_replica, new_reader, new_mark};
+ghost use Rattle.model.specs.State.{new_replica, new_reader};
 ghost use Rattle.tables.specs.View.{tables};
 ghost use Rattle.register.specs.Commissioning.{new_numbers, parties_fit};
 ghost use Rattle.register.specs.Service.{rooms_fit, allowed, Opened, Commissioned};
@@ -35,7 +35,7 @@ impl<R: QuorumSystem, F: Copy> Draft<R, F> {
         // `fill` asks for a clone that cannot fail, which `F: Copy` does not promise
         replicas.fill_with(|| new_replica(start));
         readers.fill_with(|| new_reader(start));
-        marks.fill(new_mark());
+        marks.fill(RelayMark::default());
         Ok(self.open(messages.len(), journal.len()))
     }
 
@@ -91,15 +91,13 @@ pub(super) fn parties_fit<F: Copy>(
         && marks.len() == size as usize * width as usize
 }
 
-// New records, by functions and not by `Default`: a replica and a reader begin with the register's figure, and the types are
-// another crate's.
-
 /// The numbers of a new register.
+#[tactic(auto, unfolding(model::specs::Stamps::no_stamp))]
 fn new_numbers(replicas: u32, readers: u32, message_room: usize, journal_room: usize) -> Numbers
     ensures { result ≡ new_numbers replicas readers message_room journal_room }
 {
     Numbers {
-        writer: new_writer(),
+        writer: Writer::default(),
         replicas,
         readers,
         message_room,
@@ -110,17 +108,7 @@ fn new_numbers(replicas: u32, readers: u32, message_room: usize, journal_room: u
     }
 }
 
-#[tactic(auto, unfolding(model::specs::Stamps::no_stamp))]
-fn new_writer() -> Writer
-    ensures { result ≡ new_writer }
-{
-    Writer {
-        halted: false,
-        last: 0,
-        operation: 0,
-        acknowledgers: 0,
-    }
-}
+// A new replica and a new reader, by functions and not by `Default`: they begin with the register's figure.
 
 #[tactic(auto, unfolding(model::specs::Stamps::no_stamp))]
 pub(super) fn new_replica<F: Copy>(figure: F) -> Replica<F>
@@ -145,15 +133,5 @@ pub(super) fn new_reader<F: Copy>(figure: F) -> Reader<F>
         best_stamp: 0,
         best_figure: figure,
         holders: 0,
-    }
-}
-
-pub(super) fn new_mark() -> RelayMark
-    ensures { result ≡ new_mark }
-{
-    RelayMark {
-        operation: 0,
-        relayers: 0,
-        replied: false,
     }
 }

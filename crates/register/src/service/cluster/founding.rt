@@ -4,8 +4,8 @@ ghost use Rattle.register.specs.Clusters.{Made, Founded};
 
 use super::{Cluster, OwnedTables, Unfounded, UnfoundedCause};
 use crate::service::Draft;
-use crate::service::commissioning::{new_mark, new_reader, new_replica};
-use model::{Message, MessageKind, Operation, OperationKind, Party};
+use crate::service::commissioning::{new_reader, new_replica};
+use model::{Message, MessageKind, Operation, OperationKind, Party, RelayMark};
 use quorum::QuorumSystem;
 use std::alloc::{AllocError, Global};
 
@@ -54,7 +54,7 @@ impl<R: QuorumSystem, F: Copy> Draft<R, F> {
         Ok(OwnedTables {
             replicas: filled(heap, size, new_replica(start))?,
             readers: filled(heap, width, new_reader(start))?,
-            marks: filled(heap, size * width, new_mark())?,
+            marks: filled(heap, size * width, RelayMark::default())?,
             // as much room again, so that the table seldom has to move
             queue: filled(heap, 2 * message_room, blank_message(start))?,
             head: 0,
