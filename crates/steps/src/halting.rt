@@ -34,6 +34,7 @@ pub fn halt_party<F: Copy>(
         Party::Reader(reader) => stop_at(readers, reader),
         Party::Replica(replica) => stop_at(replicas, replica),
     };
+    // `and`, not `?`: at a second exit each of the three arms would be proved once more.
     stopped.and(Ok(Reply::Done))
 }
 

@@ -12,6 +12,8 @@ use self::sets::mark_within;
 use crate::numbers::Numbers;
 use model::{Message, Operation, Reader, RelayMark};
 
+// Size, readers and lines stay parameters: so each test names those that it reads (`suits` no lines, `reader_sound` no readers),
+// and its contract holds with any others, which a method of a struct of the three would not say.
 mod lines;
 mod parties;
 mod records;
