@@ -1,8 +1,9 @@
 -- Numbers within their limits: plain numbers as values of the types that have the limits as their invariants.
 use Rattle.std.specs.Prelude.{ℕ, List, ℤ, pos, Option, unsigned_abs}
 use Rattle.std.proofs.Common.{zero-le}
+use Rattle.std.specs.Option.{option_and_then}
 use Rattle.text.specs.Numbers.{spelled, spelled_signed}
-use Rattle.text.specs.Partial.{and_then, if_within}
+use Rattle.text.specs.Partial.{if_within}
 use Rattle.figure.specs.declared.limits.UpTo.{UpTo}
 use Rattle.figure.specs.declared.limits.Level.{Level}
 
@@ -28,7 +29,7 @@ up_to max n = if_within n max (λ within. record { value = n; ok = within })
 
 -- the number from 0 to a limit that a field spells
 abbrev pub up_to_read : (max : ℕ) → List ℕ → Option (UpTo max)
-up_to_read max field = and_then (spelled field) (up_to max)
+up_to_read max field = option_and_then (up_to max) (spelled field)
 
 -- the level 0
 abbrev pub level_zero : Level
@@ -40,4 +41,4 @@ level_of z = if_within (unsigned_abs z) 20000 (λ within. record { mm = z; ok = 
 
 -- the level that a field spells
 abbrev pub level_read : List ℕ → Option Level
-level_read field = and_then (spelled_signed field) level_of
+level_read field = option_and_then level_of (spelled_signed field)

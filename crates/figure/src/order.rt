@@ -85,7 +85,7 @@ impl Arm {
         }
     }
 
-    // The word for the arm.
+    // The word for the arm, for the lent buffer: so bytes, and no `Display`.
     fn word(self) -> &'static [u8]
         ensures { result.now ≡ arm_shown self }
     {

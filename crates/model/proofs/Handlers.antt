@@ -6,7 +6,6 @@ use Rattle.std.proofs.lemmas.Bool.{cond_both, cond-true, cases_eq, eqb-true, eq-
 use Rattle.std.proofs.lemmas.Bool.Decides.{nat_tests}
 use Rattle.quorum.specs.Sets.{Rule, bits}
 use Rattle.model.specs.declared.parties.Party.{Party}
-use Rattle.model.specs.declared.reader.Phase.{Phase}
 use Rattle.model.specs.declared.messages.MessageKind.{MessageKind}
 use Rattle.model.specs.declared.journal.OperationKind.{OperationKind}
 use Rattle.model.specs.declared.reader.Reader.{Reader}
@@ -18,7 +17,7 @@ use Rattle.model.specs.Records.{took, best, heard, confirmed, lowered, placing, 
 use Rattle.model.specs.Sound.{a_reader, a_replica, suits, owned, recorded, idle, is_reader, placed, in_journal, is_read, is_round_read, is_relay_read}
 use Rattle.model.specs.Deliveries.{Effect, quiet, sending, to_all, carried, answer, counts, in_first, in_second, in_relay, read_finishing, after_have, after_last, is_quick, on_offer, on_put_ack, on_query, on_have, on_back_ack, on_reply, on_fan, on_relay, on, received}
 use Rattle.model.specs.Claims.{of_operation}
-use Rattle.model.proofs.Places.{reader_index, replica_index}
+use Rattle.model.proofs.Places.{reader_index, replica_index, not_idle}
 use Rattle.model.proofs.Totals.{set_below, weight, only_for, only_same, only_other, load_of, load, of_operation_to_all, load_to_all, Of, all_to_all, LinesKept, lines_same, lines_ended}
 use Rattle.model.proofs.Reserve.{pending, unanswered, unreplied, reserve, unreplied_below, unreplied_less, marked_below, replied_below, marked_operation, could_reply, has_replied, reserve_below}
 
@@ -221,12 +220,6 @@ module _ {F : Type 0} where
       where
         Same : Reader F → Type 0
         Same y = (y.operation ≡ d.operation) × (y.phase ≡ d.phase)
-
-    not_idle : (p : Phase) → in_first p ≡ true → idle p ≡ false
-    not_idle Phase.Idle e = sym e
-    not_idle Phase.First e = refl
-    not_idle Phase.Second e = refl
-    not_idle Phase.Relay e = refl
 
     owner_is : (r : ℕ) (p : Party) → is_reader r p ≡ true → index p ≡ r
     owner_is r Party.Writer e = absurd (both_ways false refl e)

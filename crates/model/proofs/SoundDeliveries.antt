@@ -8,7 +8,6 @@ use Rattle.std.proofs.ByRecursion.{All-get_or, All-weaker}
 use Rattle.std.proofs.lemmas.Bool.{and_parts, and_from, or_cases, cond_both, cases_lt, eqb-true, lt-ltb, ltb-true}
 use Rattle.quorum.specs.Sets.{Rule, bits, joined}
 use Rattle.model.specs.declared.parties.Party.{Party}
-use Rattle.model.specs.declared.reader.Phase.{Phase}
 use Rattle.model.specs.declared.messages.MessageKind.{MessageKind}
 use Rattle.model.specs.declared.journal.OperationKind.{OperationKind}
 use Rattle.model.specs.declared.reader.Reader.{Reader}
@@ -24,7 +23,7 @@ use Rattle.model.specs.Sound.{is_relay_read, serves, owned, recorded, idle, own_
 use Rattle.model.specs.Deliveries.{Effect, quiet, sending, written, to_all, carried, answer, counts, in_first}
 use Rattle.model.specs.Deliveries.{in_second, in_relay, is_quick, read_finishing, after_last, on_offer, on_put_ack}
 use Rattle.model.specs.Deliveries.{on_query, on_have, on_back_ack, on_reply, on_fan, on_relay, on, received}
-use Rattle.model.proofs.Places.{reader_index}
+use Rattle.model.proofs.Places.{reader_index, not_idle}
 use Rattle.model.proofs.Lists.{all_to_all}
 use Rattle.model.proofs.SoundTables.{Fits, ReaderIn, MarkIn, Placed, Tables, fits_later}
 use Rattle.model.proofs.SoundChanges.{later_reader, parties_changed, mark_changed, reader_changed, line_ended}
@@ -102,12 +101,6 @@ module _ {F : Type 0} (rule : Rule) where
     lowered_onward x =
         cond_both (eqb d.replies 0 || ltb (rank x.stamp) (rank d.best_stamp)) _ _ (Onward d)
         (λ _. onward x _ sets.1) (λ _. onward (best d) _ sets.1)
-
-not_idle : (p : Phase) → in_first p ≡ true → idle p ≡ false
-not_idle Phase.Idle e = sym e
-not_idle Phase.First e = refl
-not_idle Phase.Second e = refl
-not_idle Phase.Relay e = refl
 
 module _ {F : Type 0} (rule : Rule) (s : State F) where
   -- What goes to all the replicas fits, where it suits them and its line can have it.

@@ -1,16 +1,11 @@
 -- Which makings of a rule are refused, with what, and under which number.
-use Rattle.std.specs.Prelude.{ℕ, ◌*◌, ◌≤◌, Bool, cond, ◌&&◌, Some, None, Ok, Err, Option, Result, nat_le, nat_lt}
+use Rattle.std.specs.Prelude.{ℕ, ◌*◌, ◌≤◌, Bool, cond, ◌&&◌, Some, None, Option, nat_le, nat_lt}
 use Rattle.quorum.specs.declared.refusal.RuleRefusal.{RuleRefusal}
 
 -- The number under which a refusal is reported.
 abbrev pub number : RuleRefusal → ℕ
 number RuleRefusal.OutOfLimits = 1
 number RuleRefusal.TooManyFaults = 2
-
--- The refusal that a making answers, if any.
-abbrev pub declined : {X : Type 0} → Result X RuleRefusal → Option RuleRefusal
-declined (Ok x) = None
-declined (Err e) = Some e
 
 -- Refused as out of limits unless the test holds, and otherwise what comes next.
 abbrev pub limited : Bool → Option RuleRefusal → Option RuleRefusal

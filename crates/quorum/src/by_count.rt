@@ -1,7 +1,8 @@
 ghost use Rattle.std.specs.Prelude.{◌≡◌, ◌*◌, ◌<◌, ◌≤◌, IfOk};
 ghost use Rattle.quorum.specs.Sets.{bits, count};
 ghost use Rattle.quorum.specs.Families.{count_rule};
-ghost use Rattle.quorum.specs.Refusals.{declined, count_refusal};
+ghost use Rattle.std.specs.Result.{result_err};
+ghost use Rattle.quorum.specs.Refusals.{count_refusal};
 ghost use Rattle.quorum.specs.Laws.{Lawful};
 
 use crate::members::{MOST_REPLICAS, below};
@@ -19,7 +20,7 @@ pub struct Count {
 
 impl Count {
     pub fn new(size: u32, faults: u32) -> Result<Count, RuleRefusal>
-        ensures declines { declined result ≡ count_refusal size faults }
+        ensures declines { result_err result ≡ count_refusal size faults }
         ensures makes { IfOk result (λ v.
             (v.size ≡ size) × (v.faults ≡ faults) × Lawful (count_rule v.size v.faults)) }
     {

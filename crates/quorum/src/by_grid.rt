@@ -1,7 +1,8 @@
 ghost use Rattle.std.specs.Prelude.{◌≡◌, IfOk};
 ghost use Rattle.quorum.specs.Sets.{bits, every, some};
 ghost use Rattle.quorum.specs.Families.{grid_rule, column_full, column_touched};
-ghost use Rattle.quorum.specs.Refusals.{declined, Product, product_refusal};
+ghost use Rattle.std.specs.Result.{result_err};
+ghost use Rattle.quorum.specs.Refusals.{Product, product_refusal};
 ghost use Rattle.quorum.specs.Laws.{Lawful};
 
 use crate::members::below;
@@ -21,7 +22,7 @@ pub struct Grid {
 impl Grid {
     #[tactic(auto, using(crate::proofs::GridLaws::grid_lawful, crate::proofs::Products::limits))]
     pub fn new(rows: u32, columns: u32) -> Result<Grid, RuleRefusal>
-        ensures declines { declined result ≡ product_refusal rows columns }
+        ensures declines { result_err result ≡ product_refusal rows columns }
         ensures makes { IfOk result (λ v.
             (v.rows ≡ rows) × (v.columns ≡ columns) × Lawful (grid_rule v.rows v.columns)) }
     {

@@ -2,7 +2,8 @@ ghost use Rattle.std.specs.Prelude.{◌≡◌, IfOk};
 ghost use Rattle.quorum.specs.Sets.{Family, bits};
 ghost use Rattle.quorum.specs.Meaning.{rule_of};
 ghost use Rattle.quorum.specs.Families.{Judges, grouped, grouped_rule};
-ghost use Rattle.quorum.specs.Refusals.{declined, Product, product_refusal};
+ghost use Rattle.std.specs.Result.{result_err};
+ghost use Rattle.quorum.specs.Refusals.{Product, product_refusal};
 ghost use Rattle.quorum.specs.Laws.{Lawful};
 
 use crate::members::{below, joined};
@@ -24,7 +25,7 @@ pub struct Groups<O, I> {
 
 impl<O: QuorumSystem + Drop, I: QuorumSystem + Drop> Groups<O, I> {
     pub fn new(outer: O, inner: I) -> Result<Groups<O, I>, RuleRefusal>
-        ensures declines { declined result ≡ product_refusal (O.QuorumSystem.size outer) (I.QuorumSystem.size inner) }
+        ensures declines { result_err result ≡ product_refusal (O.QuorumSystem.size outer) (I.QuorumSystem.size inner) }
         ensures makes { IfOk result (λ v.
             (v.outer ≡ outer) × (v.inner ≡ inner)
             × (v.groups ≡ O.QuorumSystem.size outer) × (v.places ≡ I.QuorumSystem.size inner)

@@ -1,7 +1,8 @@
 ghost use Rattle.std.specs.Prelude.{◌≡◌, IfOk};
 ghost use Rattle.quorum.specs.Meaning.{rule_of};
 ghost use Rattle.quorum.specs.Families.{lead_rule};
-ghost use Rattle.quorum.specs.Refusals.{declined, lead_refusal};
+ghost use Rattle.std.specs.Result.{result_err};
+ghost use Rattle.quorum.specs.Refusals.{lead_refusal};
 ghost use Rattle.quorum.specs.Laws.{Lawful};
 
 use crate::members::{MOST_REPLICAS, has};
@@ -19,7 +20,7 @@ pub struct Lead<R> {
 impl<R: QuorumSystem + Drop> Lead<R> {
     #[tactic(auto, using(crate::proofs::LeadLaws::lead_lawful))]
     pub fn new(below: R, lead: u32) -> Result<Lead<R>, RuleRefusal>
-        ensures declines { declined result ≡ lead_refusal (R.QuorumSystem.size below) lead }
+        ensures declines { result_err result ≡ lead_refusal (R.QuorumSystem.size below) lead }
         ensures makes { IfOk result (λ v.
             (v.below ≡ below) × (v.lead ≡ lead)
             × (Lawful (rule_of R.QuorumSystem below) → Lawful (lead_rule (rule_of R.QuorumSystem v.below) v.lead))) }

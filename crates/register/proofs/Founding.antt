@@ -1,5 +1,5 @@
 -- A draft's register over new tables of its own.
-use Rattle.std.proofs.Common.{◌≡◌, ℕ, ◌+◌, ◌*◌, ◌<◌, ◌≤◌, true, List, length, replicate, vec_items, vec_len, sym, ap, ◌∙◌, subst, ap₂, arith}
+use Rattle.std.proofs.Common.{◌≡◌, ℕ, ◌+◌, ◌<◌, ◌≤◌, true, List, length, replicate, vec_items, vec_len, sym, ap, ◌∙◌, subst, ap₂, arith}
 use Rattle.std.proofs.lemmas.List.{length-replicate}
 use Rattle.std.proofs.lemmas.Bool.{eq-eqb}
 use Rattle.std.proofs.lemmas.Bool.Decides.{nat_tests}
@@ -12,7 +12,7 @@ use Rattle.tables.specs.declared.numbers.Numbers.{Numbers}
 use Rattle.register.specs.declared.service.Draft.{Draft}
 use Rattle.register.specs.declared.service.Register.{Register}
 use Rattle.register.specs.declared.service.cluster.OwnedTables.{OwnedTables}
-use Rattle.tables.specs.View.{Tables, view}
+use Rattle.tables.specs.View.{Tables, view, Fitting}
 use Rattle.steps.specs.Queueing.{window}
 use Rattle.steps.proofs.Queues.{window_long}
 use Rattle.register.specs.Owned.{owned}
@@ -68,24 +68,18 @@ module _ {R F : Type 0} {g : Ghosts R} (d : Draft R F g) (message_room journal_r
   -- what the type of a cluster keeps
   pub new_cluster
       : record {
-        replicas_fit : vec_len o.replicas ≡ x.numbers.replicas;
-        readers_fit : vec_len o.readers ≡ x.numbers.readers;
-        marks_fit : vec_len o.marks ≡ x.numbers.replicas * x.numbers.readers;
+        fits : Fitting x.numbers (owned x.numbers.message_room o);
         queue_fits : o.head + x.numbers.message_room ≤ vec_len o.queue;
         queue_slack : x.numbers.message_room < vec_len o.queue;
-        journal_fits : vec_len o.journal ≡ x.numbers.journal_room;
         sound : sound (rule_of g x.rule) (view x.start x.numbers (owned x.numbers.message_room o)) ≡ true;
       }
   new_cluster =
       let least = d.some_replica in
       let some_room : 1 ≤ message_room = grind (arith, nat_tests) in
       record {
-        replicas_fit = o.replicas.ok.0 ∙ rw opened.numbers (many new.replicas _ _ m.replicas);
-        readers_fit = o.readers.ok.0 ∙ rw opened.numbers (many new.readers _ _ m.readers);
-        marks_fit = o.marks.ok.0 ∙ rw opened.numbers (many new.marks _ _ m.marks);
+        fits = service.begins.fits;
         queue_fits = omega (arith, room_is, m.head, m.queue);
         queue_slack = omega (arith, room_is, m.queue, some_room);
-        journal_fits = rw opened.numbers m.journal;
         sound =
             ap₂ (λ (r : R) (s : State F). sound (rule_of g r) s) opened.rule service.state
             ∙ fresh_sound (drafted d) d.start d.readers _ _;

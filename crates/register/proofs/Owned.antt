@@ -1,5 +1,5 @@
 -- A register that owns its tables: they fit, they are sound, and a call leaves them so.
-use Rattle.std.proofs.Common.{◌≡◌, ℕ, ◌+◌, ◌*◌, ◌<◌, ◌≤◌, true, List, [], ◌∷◌, ◌++◌, length, vec_items, vec_len, sym, refl, ap, ◌∙◌, subst, arith}
+use Rattle.std.proofs.Common.{◌≡◌, ℕ, ◌+◌, ◌<◌, ◌≤◌, true, List, [], ◌∷◌, ◌++◌, length, vec_items, vec_len, sym, refl, ap, ◌∙◌, subst, arith}
 use Rattle.std.specs.Vec.{with_items}
 use Rattle.std.proofs.lemmas.List.{with_items_is}
 use Rattle.quorum.specs.Sets.{Rule}
@@ -21,9 +21,10 @@ use Rattle.model.proofs.SoundCalls.{sound_kept}
 use Rattle.tables.specs.declared.numbers.Numbers.{Numbers}
 use Rattle.register.specs.declared.service.cluster.OwnedTables.{OwnedTables}
 use Rattle.register.specs.declared.service.cluster.Cluster.{Cluster}
-use Rattle.tables.specs.View.{Tables, tables, view, rule_for}
+use Rattle.tables.specs.View.{Tables, tables, view, Fitting, rule_for}
 use Rattle.steps.specs.Doing.{judged}
 use Rattle.steps.specs.Queueing.{window, Advances}
+use Rattle.steps.proofs.Queues.{window_long}
 use Rattle.register.specs.Owned.{owned}
 use Rattle.register.specs.Clusters.{cluster_state, cluster_rule, Steps}
 use Rattle.register.proofs.Histories.{step_sound}
@@ -120,27 +121,38 @@ module _ {R F : Type 0} {g : Ghosts R} (x : Cluster R F g) (c : Call F) (loan : 
   next : after ≡ (step rule (cluster_state x) c).next
   next = ap (λ (t : Tables F). view start n' t) held ∙ did.state ∙ ap (λ (o : Outcome F). o.next) stepped
 
+  queue_long : length loan.lent.queue ≡ x.tables.queue.len
+  queue_long = ap (λ (l : Lent F). length l.queue) loan.is ∙ sym x.tables.queue.ok.0
+
+  -- they have the lengths that they had
+  fitting : Fitting n' (owned n'.message_room (refilled x.tables head loan.back))
+  fitting =
+      let same = did.sizes in
+      let long = loan.long in
+      let o = x.tables in
+      subst (Fitting n') (sym held)
+      (record {
+        replicas = long.replicas ∙ o.replicas.ok.0 ∙ x.fits.replicas ∙ sym same.replicas;
+        readers = long.readers ∙ o.readers.ok.0 ∙ x.fits.readers ∙ sym same.readers;
+        marks = long.marks ∙ o.marks.ok.0 ∙ x.fits.marks ∙ sym (rw (same.replicas, same.readers));
+        messages = window_long head n.message_room loan.back.queue (omega (arith, within, queue_long, long.queue)) ∙ sym same.message_room;
+        journal = long.journal ∙ o.journal.ok.0 ∙ x.fits.journal ∙ sym same.journal_room;
+      })
+
   -- what the type of a cluster keeps
   pub still
       : record {
-        replicas_fit : vec_len x.tables.replicas ≡ n'.replicas;
-        readers_fit : vec_len x.tables.readers ≡ n'.readers;
-        marks_fit : vec_len x.tables.marks ≡ n'.replicas * n'.readers;
+        fits : Fitting n' (owned n'.message_room (refilled x.tables head loan.back));
         queue_fits : head + n'.message_room ≤ vec_len x.tables.queue;
         queue_slack : n'.message_room < vec_len x.tables.queue;
-        journal_fits : vec_len x.tables.journal ≡ n'.journal_room;
         sound : sound rule after ≡ true;
       }
   still =
       let same = did.sizes in
-      let queue_long : length loan.lent.queue ≡ x.tables.queue.len = ap (λ (l : Lent F). length l.queue) loan.is ∙ sym x.tables.queue.ok.0 in
       record {
-        replicas_fit = x.replicas_fit ∙ sym same.replicas;
-        readers_fit = x.readers_fit ∙ sym same.readers;
-        marks_fit = x.marks_fit ∙ sym (rw (same.replicas, same.readers));
+        fits = fitting;
         queue_fits = omega (arith, within, queue_long, same.message_room);
         queue_slack = omega (arith, x.queue_slack, same.message_room);
-        journal_fits = x.journal_fits ∙ sym same.journal_room;
         sound = ap (λ (s : State F). sound rule s) next ∙ sound_kept rule (cluster_state x) c x.sound;
       }
 

@@ -1,6 +1,5 @@
 -- What the worked example lines come to, as text.
-use Rattle.std.specs.Prelude.{ℕ, Bool, true, ◌&&◌, List, [], ◌∷◌, ◌++◌, Ok, Err, codes, Result}
-use Rattle.std.specs.Str.{bytes_eq}
+use Rattle.std.specs.Prelude.{ℕ, List, ◌∷◌, ◌++◌, Ok, Err, codes, Result}
 use Rattle.figure.specs.contracts.order.DigOrderFigureKind.TheImpl.{ghosts as order_kind}
 use Rattle.figure.specs.contracts.tide.TideFigureKind.TheImpl.{ghosts as tide_kind}
 use Rattle.figure.specs.declared.kind.FigureKind.{Ghosts}
@@ -66,8 +65,3 @@ order_said line = call_said order_kind line
 -- A first line.
 abbrev pub first_said : List ℕ → List ℕ
 first_said line = said header_shown report (opening_of line)
-
--- Each line comes to what stands beside it.
-abbrev pub all_said : (List ℕ → List ℕ) → List (List ℕ × List ℕ) → Bool
-all_said say [] = true
-all_said say (row ∷ rows) = bytes_eq (say row.0) row.1 && all_said say rows

@@ -1,5 +1,6 @@
 ghost use Rattle.std.specs.Prelude.{◌≡◌, true};
-ghost use Rattle.script.specs.Examples.{all_said, tide_said, order_said, first_said};
+ghost use Rattle.figure.specs.Examples.{all_said};
+ghost use Rattle.script.specs.Examples.{tide_said, order_said, first_said};
 ghost use Rattle.script.specs.ExampleLines.{tide_lines, order_lines, first_lines, answer_lines};
 
 // The definitions come to what stands beside each worked example line. It has no other use: its contract is the

@@ -1,10 +1,9 @@
 -- What is printed reads back.
 use Rattle.std.proofs.Common.{◌≡◌, ℕ, suc, ◌+◌, ◌*◌, ◌/◌, ◌%◌, ◌^◌, ◌<◌, ◌≤◌, false, List, [], ◌∷◌, ◌++◌, length, ℤ, pos, negsuc, neg_ℤ, nat_abs, Some, None, decimal, Option, sym, refl, ap, ◌∙◌, arith, ne_eqb, le-leb}
 use Rattle.std.proofs.lemmas.Fmt.{decimal_by_steps, decimal_nonempty, length-decimal-le}
-use Rattle.std.specs.Option.{option_map}
+use Rattle.std.specs.Option.{option_map, option_and_then}
 use Rattle.std.specs.Fmt.{signed_decimal}
 use Rattle.text.specs.Numbers.{digit_of, spelled_on, spelled, minus_first, spelled_signed}
-use Rattle.text.specs.Partial.{and_then}
 use Rattle.text.proofs.Parting.{Tabless}
 use Rattle.text.proofs.Spelling.{spelled_is}
 
@@ -15,8 +14,8 @@ never e = let z : ◌≡◌ {A = ℕ} 0 1 = cc in omega arith
 spelled_append : (n m : ℕ) (a b : List ℕ) → spelled_on n a ≡ Some m → spelled_on n (a ++ b) ≡ spelled_on m b
 spelled_append n m [] b e = let k : n ≡ m = cc in ap (λ x. spelled_on x b) k
 spelled_append n m (c ∷ cs) b e =
-    elim (digit_of c) as (λ (o : Option ℕ). and_then o (λ d. spelled_on (n * 10 + d) cs) ≡ Some m
-    → and_then o (λ d. spelled_on (n * 10 + d) (cs ++ b)) ≡ spelled_on m b) [
+    elim (digit_of c) as (λ (o : Option ℕ). option_and_then (λ d. spelled_on (n * 10 + d) cs) o ≡ Some m
+    → option_and_then (λ d. spelled_on (n * 10 + d) (cs ++ b)) o ≡ spelled_on m b) [
       | None ↦ λ h. absurd (never h)
       | Some d ↦ λ h. spelled_append (n * 10 + d) m cs b h
     ] e
@@ -28,7 +27,7 @@ digit_is d h =
     rw (le-leb 48 (48 + d) lo, le-leb (48 + d) 57 hi) (ap Some (omega arith))
 
 one_digit : (n d : ℕ) → d < 10 → spelled_on n ((48 + d) ∷ []) ≡ Some (n * 10 + d)
-one_digit n d h = ap (λ o. and_then o (λ x. Some (n * 10 + x))) (digit_is d h)
+one_digit n d h = ap (option_and_then (λ x. Some (n * 10 + x))) (digit_is d h)
 
 -- the digits of a number spell it
 decimal_spells : (n : ℕ) → n < 2 ^ 64 → spelled_on 0 (decimal n) ≡ Some n
@@ -46,14 +45,14 @@ spelled_decimal n h =
     ∙ decimal_spells n (omega arith)
 
 not_digit : (c n m : ℕ) (cs : List ℕ) → digit_of c ≡ None → spelled_on n (c ∷ cs) ≡ Some m → ⊥
-not_digit c n m cs e h = never (sym (ap (λ o. and_then o (λ d. spelled_on (n * 10 + d) cs)) e) ∙ h)
+not_digit c n m cs e h = never (sym (ap (option_and_then (λ d. spelled_on (n * 10 + d) cs)) e) ∙ h)
 
 -- what spells a number has no tab
 tabless_spelled : (n m : ℕ) (ds : List ℕ) → spelled_on n ds ≡ Some m → Tabless ds
 tabless_spelled n m [] h = tt
 tabless_spelled n m (c ∷ cs) h = (
   λ e. not_digit c n m cs (ap digit_of e) h,
-  elim (digit_of c) as (λ (o : Option ℕ). and_then o (λ d. spelled_on (n * 10 + d) cs) ≡ Some m → Tabless cs) [
+  elim (digit_of c) as (λ (o : Option ℕ). option_and_then (λ d. spelled_on (n * 10 + d) cs) o ≡ Some m → Tabless cs) [
     | None ↦ λ k. absurd (never k)
     | Some d ↦ λ k. tabless_spelled (n * 10 + d) m cs k
   ] h,

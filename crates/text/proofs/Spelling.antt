@@ -1,14 +1,14 @@
 -- Digits and the numbers that they spell.
 use Rattle.std.proofs.Common.{◌≡◌, ℕ, ◌+◌, ◌*◌, ◌^◌, ◌<◌, ◌≤◌, List, length, get_or, drop, Some, Option, sym, ap, ◌∙◌, pow-suc, add-one, arith, drop-cons, le-leb}
 use Rattle.std.proofs.lemmas.List.{drop_all}
+use Rattle.std.specs.Option.{option_and_then}
 use Rattle.text.specs.Numbers.{digit_of, spelled_on, spelled}
-use Rattle.text.specs.Partial.{and_then}
 
 -- the byte at a place, and what the digits from there on spell
 pub spelled_more : (n : ℕ) (xs : List ℕ) (i : ℕ) → i < length xs → (o : Option ℕ) → o ≡ digit_of (get_or xs i 0)
-    → and_then o (λ d. spelled_on (n * 10 + d) (drop (i + 1) xs)) ≡ spelled_on n (drop i xs)
+    → option_and_then (λ d. spelled_on (n * 10 + d) (drop (i + 1) xs)) o ≡ spelled_on n (drop i xs)
 spelled_more n xs i h o e =
-    ap (λ p. and_then p (λ d. spelled_on (n * 10 + d) (drop (i + 1) xs))) e
+    ap (option_and_then (λ d. spelled_on (n * 10 + d) (drop (i + 1) xs))) e
     ∙ sym (ap (spelled_on n) (drop-cons xs i 0 h) ∙ rw add-one)
 
 pub spelled_end : (n : ℕ) (xs : List ℕ) (i : ℕ) → length xs ≤ i → spelled_on n (drop i xs) ≡ Some n

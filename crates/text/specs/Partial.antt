@@ -1,11 +1,6 @@
--- Values that may be missing.
+-- Values that may be missing, beside those of the library.
 use Rattle.std.specs.Prelude.{◌≡◌, ℕ, ◌≤◌, Bool, true, false, Some, None, Ok, Err, Option, Result, nat_le, refl}
 use Rattle.std.proofs.Common.{leb-true}
-
--- what is made of a value, if there is one
-abbrev pub and_then : {A B : Type 0} → Option A → (A → Option B) → Option B
-and_then None f = None
-and_then (Some a) f = f a
 
 -- what is made of a result, if it is no error
 abbrev pub ok_then : {A B E : Type 0} → Result A E → (A → Result B E) → Result B E

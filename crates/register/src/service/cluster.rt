@@ -1,7 +1,7 @@
-ghost use Rattle.std.specs.Prelude.{◌≡◌, ◌+◌, ◌*◌, ◌<◌, ◌≤◌, true, vec_len};
+ghost use Rattle.std.specs.Prelude.{◌≡◌, ◌+◌, ◌<◌, ◌≤◌, true, vec_len};
 ghost use Rattle.quorum.specs.Meaning.{rule_of};
 ghost use Rattle.model.specs.Sound.{sound as is_sound};
-ghost use Rattle.tables.specs.View.{view};
+ghost use Rattle.tables.specs.View.{view, Fitting};
 ghost use Rattle.register.specs.Owned.{owned};
 
 use super::{Draft, Register};
@@ -26,12 +26,9 @@ struct OwnedTables<F> {
 pub struct Cluster<R: QuorumSystem, F> {
     register: Register<R, F>,
     tables: OwnedTables<F>,
-    ghost replicas_fit: { vec_len tables.replicas ≡ register.numbers.replicas },
-    ghost readers_fit: { vec_len tables.readers ≡ register.numbers.readers },
-    ghost marks_fit: { vec_len tables.marks ≡ register.numbers.replicas * register.numbers.readers },
+    ghost fits: { Fitting register.numbers (owned register.numbers.message_room tables) },
     ghost queue_fits: { tables.head + register.numbers.message_room ≤ vec_len tables.queue },
     ghost queue_slack: { register.numbers.message_room < vec_len tables.queue },
-    ghost journal_fits: { vec_len tables.journal ≡ register.numbers.journal_room },
     ghost sound: { is_sound (rule_of R.QuorumSystem register.rule) (view register.start register.numbers (owned register.numbers.message_room tables)) ≡ true },
 }
 

@@ -1,5 +1,5 @@
 ghost use Rattle.std.specs.Prelude.{◌≡◌, IfOk};
-ghost use Rattle.quorum.specs.Refusals.{declined};
+ghost use Rattle.std.specs.Result.{result_err};
 ghost use Rattle.register.specs.Commissioning.{draft_refusal};
 
 use super::Draft;
@@ -8,7 +8,7 @@ use quorum::{QuorumSystem, RuleRefusal};
 impl<R: QuorumSystem + Drop, F: Copy> Draft<R, F> {
     /// A draft of a register with this rule, for so many readers, that starts with this figure.
     pub fn new(rule: R, readers: u32, start: F) -> Result<Draft<R, F>, RuleRefusal>
-        ensures declines { declined result ≡ draft_refusal (R.QuorumSystem.size rule) readers }
+        ensures declines { result_err result ≡ draft_refusal (R.QuorumSystem.size rule) readers }
         ensures makes { IfOk result (λ d. (d.rule ≡ rule) × (d.readers ≡ readers) × (d.start ≡ start)) }
     {
         if !(1..=24).contains(&rule.size()) || !(1..=32).contains(&readers) {
