@@ -1,0 +1,90 @@
+ghost use Rattle.model.specs.declared.calls.Call.{Call as ModelCall};
+ghost use Rattle.model.specs.declared.journal.ReadKind.{ReadKind as ModelReadKind};
+ghost use Rattle.register.specs.Calls.{Plays};
+ghost use Rattle.first_tide.specs.Lent.{lent};
+
+use crate::memory::Memory;
+use figure::Tide;
+use model::{ReadKind, Refusal, Reply};
+use quorum::Count;
+use register::{Register, Tally};
+
+/// A register in service, and the memory that is lent to each of its calls.
+#[derive(Drop)]
+pub struct Service {
+    register: Register<Count, Tide>,
+    memory: Memory,
+}
+
+// Each call below promises what the register's call promises: the model's step, and the claims over every history that led to it.
+impl Service {
+    pub fn new(register: Register<Count, Tide>, memory: Memory) -> Service {
+        Service { register, memory }
+    }
+
+    /// Writes the tide.
+    pub fn write(&mut self, tide: Tide) -> Result<Reply<Tide>, Refusal>
+        ensures { Plays (ModelCall.Write tide) self.old.register (lent self.old.memory) result self.new.register (lent self.new.memory) }
+    {
+        let Service { register, memory } = self;
+        register.write(
+            &memory.replicas,
+            &memory.readers,
+            &memory.marks,
+            &mut memory.messages,
+            &mut memory.journal,
+            tide,
+        )
+    }
+
+    /// Starts a quick read by the reader.
+    pub fn read(&mut self) -> Result<Reply<Tide>, Refusal>
+        ensures { Plays (ModelCall.Read 0 ModelReadKind.Quick) self.old.register (lent self.old.memory) result self.new.register (lent self.new.memory) }
+    {
+        let Service { register, memory } = self;
+        register.read(
+            &memory.replicas,
+            &mut memory.readers,
+            &memory.marks,
+            &mut memory.messages,
+            &mut memory.journal,
+            0,
+            ReadKind::Quick,
+        )
+    }
+
+    /// Delivers the message that has waited longest.
+    pub fn deliver(&mut self) -> Result<Reply<Tide>, Refusal>
+        ensures { Plays (ModelCall.Deliver 0) self.old.register (lent self.old.memory) result self.new.register (lent self.new.memory) }
+    {
+        let Service { register, memory } = self;
+        register.deliver(
+            &mut memory.replicas,
+            &mut memory.readers,
+            &mut memory.marks,
+            &mut memory.messages,
+            &mut memory.journal,
+            0,
+        )
+    }
+
+    /// Loses the message that has waited longest.
+    pub fn lose(&mut self) -> Result<Reply<Tide>, Refusal>
+        ensures { Plays (ModelCall.Drop 0) self.old.register (lent self.old.memory) result self.new.register (lent self.new.memory) }
+    {
+        let Service { register, memory } = self;
+        register.drop(
+            &memory.replicas,
+            &memory.readers,
+            &memory.marks,
+            &mut memory.messages,
+            &memory.journal,
+            0,
+        )
+    }
+
+    /// Closes the register.
+    pub fn close(self) -> Tally {
+        self.register.close()
+    }
+}
