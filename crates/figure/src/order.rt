@@ -98,7 +98,7 @@ impl Arm {
 }
 
 impl Verb {
-    // The verb that a word names. Read by name as an arm is, and so by no `TryFrom`.
+    // The verb that a word names. A `TryFrom` for this one caller would be no plainer.
     #[tactic(auto, unfolding(crate::specs::Orders::verb_of))]
     fn named(word: &[u8]) -> Result<Verb, FigureFault>
         ensures { result ≡ verb_of word.now }

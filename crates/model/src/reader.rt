@@ -12,7 +12,7 @@ pub enum Phase {
 }
 
 /// A reader: its current operation (0 if none), who has replied, the best it found and who holds that.
-// 0 and no `Option`: the tables are the caller's and may hold any number, so the check of soundness judges phase and operation.
+// 0 and no `Option`: the readers are a table of the caller's, whose format has 0 for none. The check of soundness judges phase and operation.
 #[derive(Clone, Copy)]
 pub struct Reader<F> {
     pub halted: bool,

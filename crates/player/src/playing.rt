@@ -44,7 +44,7 @@ fn play_script(heap: Global, script: &[u8]) -> Result<Vec<u8>, AllocError>
     };
     match read_header(first) {
         Ok(header) => play_header(heap, header, lines, &mut out)?,
-        Err(fault) => push_answer::<Tide>(&mut out, 1, Err(ScriptFault::Text(fault)))?,
+        Err(fault) => push_answer::<Tide>(&mut out, 1, Err(fault.into()))?,
     }
     Ok(out)
 }
@@ -82,7 +82,7 @@ fn play_kind<F: FigureKind>(
             let mut cluster = found(heap, draft)?;
             play_calls(&mut cluster, lines, out)
         }
-        Err(refusal) => push_answer::<F>(out, 1, Err(ScriptFault::Rule(refusal))),
+        Err(refusal) => push_answer::<F>(out, 1, Err(refusal.into())),
     }
 }
 

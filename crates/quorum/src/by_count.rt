@@ -24,7 +24,7 @@ impl Count {
         ensures makes { IfOk result (λ v.
             (v.size ≡ size) × (v.faults ≡ faults) × Lawful (count_rule v.size v.faults)) }
     {
-        if size == 0 || size > MOST_REPLICAS {
+        if !(1..=MOST_REPLICAS).contains(&size) {
             return Err(RuleRefusal::OutOfLimits);
         }
         if faults >= size || 2 * faults >= size {

@@ -19,7 +19,7 @@ pub fn hear<F: Copy>(reader: &mut Reader<F>, message: &Message<F>, sender: u32) 
     if reader.operation != message.operation || has(reader.replies, sender) {
         return false;
     }
-    // Phase and kind are matched together, in one match that changes the reader in place.
+    // A rule of the project: phase and kind are matched together, in one match that changes the reader in place.
     match (reader.phase, message.kind) {
         (Phase::First, MessageKind::Have) if message.stamp > reader.best_stamp => {
             reader.best_stamp = message.stamp;

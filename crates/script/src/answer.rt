@@ -34,7 +34,7 @@ pub fn print_answer<F: FigureKind>(
 // Writes an answer at a place of the lent buffer, and gives the place after it.
 //
 // The 66 bytes that it may take stand in each of the four contracts here: how wide a number is, is known of a parameter,
-// and not of what an arm takes out of the answer.
+// and not of what an arm takes out of the answer. So the five parts of a finish are parameters, too.
 fn put_answer<F: FigureKind>(
     buffer: &mut [u8],
     at: usize,

@@ -96,6 +96,7 @@ impl TextFault {
 
 impl ScriptFault {
     /// The layer that found the fault, as it is printed.
+    // For the lent buffer: so bytes, and no `Display`.
     pub fn layer(self) -> &'static [u8]
         ensures { result.now ≡ (report self).layer }
     {

@@ -70,6 +70,7 @@ pub fn read_header(line: &[u8]) -> Result<Header, TextFault>
     let kind = fields.next_field();
     let readers = fields.next_field();
     let word = fields.next_field();
+    // one word alone, from which nothing is chosen: so no match
     if !is_word(plant, "plant") {
         return Err(TextFault::UnknownWord { field: 0 });
     }

@@ -20,6 +20,7 @@ pub fn open_header(header: Header) -> Result<(), RuleRefusal>
     ensures { result ≡ opening header }
 {
     make_rule(header.rule)?;
+    // the register's draft asks the same, but stands above this crate
     if !(1..=32).contains(&header.readers) {
         return Err(RuleRefusal::OutOfLimits);
     }

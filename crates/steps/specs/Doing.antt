@@ -1,5 +1,5 @@
 -- What a call on sound tables does to the register's numbers and to every place of the lent tables.
-use Rattle.std.specs.Prelude.{◌≡◌, ℕ, ◌+◌, Bool, List, [], ◌∷◌, length, nat_le, nat_lt, slice_index_or}
+use Rattle.std.specs.Prelude.{◌≡◌, ℕ, ◌+◌, Bool, List, [], ◌∷◌, ◌++◌, length, nat_le, nat_lt, slice_index_or}
 use Rattle.quorum.specs.Sets.{Rule}
 use Rattle.model.specs.declared.calls.Call.{Call}
 use Rattle.model.specs.Answers.{Answer}
@@ -41,15 +41,17 @@ room_tests n =
     ∷ (nat_lt n.message_room (n.waiting + n.replicas), Refusal.NoRoom)
     ∷ []
 
+-- A party at rest: not halted, and with no operation under way.
+abbrev pub rest_tests : Bool → ℕ → Tests
+rest_tests halted operation = (halted, Refusal.Halted) ∷ (busy operation, Refusal.Busy) ∷ []
+
 abbrev pub write_tests : Numbers → Tests
-write_tests n = (n.writer.halted, Refusal.Halted) ∷ (busy n.writer.operation, Refusal.Busy) ∷ room_tests n
+write_tests n = rest_tests n.writer.halted n.writer.operation ++ room_tests n
 
 abbrev pub read_tests : {F : Type 0} → F → Numbers → List (Reader F) → ℕ → Tests
 read_tests start n ds r =
-    (nat_le (length ds) r, Refusal.NoSuchParty)
-    ∷ ((slice_index_or ds r (new_reader start)).halted, Refusal.Halted)
-    ∷ (busy (slice_index_or ds r (new_reader start)).operation, Refusal.Busy)
-    ∷ room_tests n
+    let d = slice_index_or ds r (new_reader start) in
+    (nat_le (length ds) r, Refusal.NoSuchParty) ∷ (rest_tests d.halted d.operation ++ room_tests n)
 
 -- The refusals of a halt: of a party that is halted already, and before that of a place past the end of its table.
 abbrev pub again_test : Bool → Tests

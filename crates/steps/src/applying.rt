@@ -1,8 +1,7 @@
-ghost use Rattle.std.specs.Prelude.{◌≡◌, ◌+◌, ◌-◌, ◌<◌, ◌≤◌, List, ◌++◌, length, get_or, take, set, slice_index_or, slice_set, Ok};
+ghost use Rattle.std.specs.Prelude.{◌≡◌, ◌+◌, ◌-◌, ◌≤◌, List, ◌++◌, length, take, set, slice_index_or, Ok};
 ghost use Rattle.model.specs.State.{stored, no_line};
 ghost use Rattle.model.specs.Steps.{counted};
 ghost use Rattle.model.specs.declared.answers.Reply.{Reply as ModelReply};
-ghost use Rattle.model.specs.declared.journal.Operation.{Operation as OperationRow};
 ghost use Rattle.model.specs.declared.marks.RelayMark.{RelayMark as MarkRow};
 ghost use Rattle.model.specs.declared.messages.Message.{Message as MessageRow};
 ghost use Rattle.model.specs.declared.reader.Reader.{Reader as ReaderRow};
@@ -29,6 +28,8 @@ pub fn change<A: Copy>(table: &mut [A], to: Option<(usize, A)>)
         }
     }
 }
+
+// What is sent is matched three times, to send it, to count it and to note it in the journal, so that each has its own contract.
 
 /// How many messages are sent.
 pub fn post_count<F: Copy>(size: u32, post: Post<F>) -> usize
@@ -79,20 +80,15 @@ pub fn count_sent<F: Copy>(journal: &mut [Operation<F>], lines: u16, operation: 
 {
     let at = usize::from(operation).saturating_sub(1);
     if at < usize::from(lines) {
-        add_sent(journal, at, more);
+        add_sent(&mut journal[at], more);
     }
 }
 
-// Counts messages to the line at a place.
-fn add_sent<F: Copy>(journal: &mut [Operation<F>], at: usize, more: u16)
-    requires { at < length journal.old }
-    ensures { (d : OperationRow F) → journal.new ≡ slice_set journal.old at (sent_more (slice_index_or journal.old at d) more) }
+// Counts messages to a line.
+fn add_sent<F: Copy>(line: &mut Operation<F>, more: u16)
+    ensures { line.new ≡ sent_more line.old more }
 {
-    let line = journal[at];
-    journal[at] = Operation {
-        sent: line.sent.saturating_add(more),
-        ..line
-    };
+    line.sent = line.sent.saturating_add(more);
 }
 
 /// Finishes an operation, if one finishes: its line tells so from now on. Gives the answer of the delivery.
@@ -118,7 +114,11 @@ pub fn finish_operation<F: Copy>(
     };
     numbers.finished = numbers.finished.saturating_add(1);
     let event = u32::from(numbers.lines) + u32::from(numbers.finished);
-    let sent = end_line(journal, usize::from(finish.operation) - 1, event, finish);
+    let sent = end_line(
+        &mut journal[usize::from(finish.operation) - 1],
+        event,
+        finish,
+    );
     Reply::Finished {
         operation: finish.operation,
         stamp: finish.stamp,
@@ -128,19 +128,17 @@ pub fn finish_operation<F: Copy>(
     }
 }
 
-// Writes into the line at a place that its operation has finished, at this event. Gives its count of messages.
-fn end_line<F: Copy>(journal: &mut [Operation<F>], at: usize, event: u32, finish: Finish<F>) -> u16
-    requires { at < length journal.old }
-    ensures sent { (d : OperationRow F) → result ≡ (get_or journal.old at d).sent }
-    ensures ended { (d : OperationRow F) → journal.new ≡ slice_set journal.old at (ended_by (slice_index_or journal.old at d) event finish) }
+// Writes into a line that its operation has finished, at this event. Gives its count of messages.
+fn end_line<F: Copy>(line: &mut Operation<F>, event: u32, finish: Finish<F>) -> u16
+    ensures sent { result ≡ line.old.sent }
+    ensures ended { line.new ≡ ended_by line.old event finish }
 {
-    let line = journal[at];
-    journal[at] = Operation {
+    *line = Operation {
         finished: event,
         exchanges: finish.exchanges,
         stamp: finish.stamp,
         figure: finish.figure,
-        ..line
+        ..*line
     };
     line.sent
 }

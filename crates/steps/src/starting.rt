@@ -11,7 +11,7 @@ ghost use Rattle.model.specs.declared.marks.RelayMark.{RelayMark as MarkRow};
 ghost use Rattle.tables.specs.View.{tables, view, Kept};
 ghost use Rattle.steps.specs.Posting.{carries};
 ghost use Rattle.steps.specs.Starting.{with_one_more, opened_line, ReadClear};
-ghost use Rattle.steps.specs.Doing.{judged, Does, room_tests, write_tests, read_tests};
+ghost use Rattle.steps.specs.Doing.{judged, Does, rest_tests, room_tests, write_tests, read_tests};
 
 use crate::tools::{append, send_all};
 use model::{
@@ -122,13 +122,21 @@ fn may_read<F: Copy>(
     ensures clear { OnOk result (ReadClear numbers.now readers.now reader) }
 {
     let row = readers.get(reader as usize).ok_or(Refusal::NoSuchParty)?;
-    if row.halted {
+    at_rest(row.halted, row.operation)?;
+    has_room(numbers)
+}
+
+// Whether a party that is halted or not, with this operation under way, may start one.
+fn at_rest(halted: bool, operation: u16) -> Result<(), Refusal>
+    ensures { result_err result ≡ first_of (rest_tests halted operation) }
+{
+    if halted {
         return Err(Refusal::Halted);
     }
-    if row.operation != 0 {
+    if operation != 0 {
         return Err(Refusal::Busy);
     }
-    has_room(numbers)
+    Ok(())
 }
 
 // Whether there is room for the line of an operation and for its first messages.
@@ -170,12 +178,7 @@ fn may_write(numbers: &Numbers) -> Result<(), Refusal>
     requires { Kept numbers.now }
     ensures { result_err result ≡ first_of (write_tests numbers.now) }
 {
-    if numbers.writer.halted {
-        return Err(Refusal::Halted);
-    }
-    if numbers.writer.operation != 0 {
-        return Err(Refusal::Busy);
-    }
+    at_rest(numbers.writer.halted, numbers.writer.operation)?;
     has_room(numbers)
 }
 

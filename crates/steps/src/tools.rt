@@ -19,8 +19,6 @@ pub fn place_of(numbers: &Numbers, place: u32) -> Result<usize, Refusal>
     Ok(at)
 }
 
-// How much of a table is in use goes beside it: it is lent whole, and what is not in use keeps what it held.
-
 /// Takes out what stands at a place of the first `used`, and lets the later ones move up.
 pub fn remove_at<A: Copy>(table: &mut [A], used: usize, at: usize)
     requires { (at < used) × (used ≤ length table.old) }
@@ -38,7 +36,7 @@ pub fn append<A: Copy>(table: &mut [A], used: usize, item: A)
 }
 
 /// Adds a copy of the message for each replica below `size`, in their order. The receiver that the message comes with is not
-/// looked at.
+/// looked at: a type without it would be a `Message` but for one field.
 pub fn send_all<F: Copy>(messages: &mut [Message<F>], used: usize, size: u32, message: Message<F>)
     requires { used + size ≤ length messages.old }
     ensures { messages.new ≡ stored (take used messages.old

@@ -40,6 +40,7 @@ pub struct Unfounded<R: QuorumSystem, F> {
 }
 
 /// Why a draft was not put into service over tables of its own.
+// Named, and no `Option` of the error: that the rooms are outside their limits is a cause of its own.
 #[derive(Debug, Drop)]
 pub enum UnfoundedCause {
     /// A room is outside its limits.

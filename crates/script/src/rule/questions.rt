@@ -3,8 +3,8 @@ ghost use Rattle.script.specs.Rules.{meaning_of};
 use super::ScriptRule;
 use quorum::QuorumSystem;
 
-// The rules that a script can name are these four, so they are an enum. As `dyn QuorumSystem` a rule made in here would have to be
-// handed out, which the gate refuses.
+// The rules that a script can name are these four, so they are an enum. One match for the three would have to hand out the rule as a
+// `dyn QuorumSystem` made here, which the gate refuses.
 impl QuorumSystem for ScriptRule {
     ghost size = { λ s. (meaning_of s).size };
 
