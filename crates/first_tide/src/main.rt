@@ -38,7 +38,7 @@ fn run(rt: &HostRuntime) -> anyhow::Result<()> {
         )
         .unwrap();
     println!(rt; "commissioned: room for 16 messages and 8 operations")?;
-    let mut service = Service::new(register, memory);
+    let mut service = Service { register, memory };
 
     tell(
         rt,

@@ -1,6 +1,8 @@
+ghost use Rattle.std.specs.Prelude.{◌≡◌};
 ghost use Rattle.model.specs.declared.calls.Call.{Call as ModelCall};
 ghost use Rattle.model.specs.declared.journal.ReadKind.{ReadKind as ModelReadKind};
 ghost use Rattle.register.specs.Calls.{Plays};
+ghost use Rattle.register.specs.Service.{closed};
 ghost use Rattle.first_tide.specs.Lent.{lent};
 
 use crate::memory::Memory;
@@ -12,16 +14,12 @@ use register::{Register, Tally};
 /// A register in service, and the memory that is lent to each of its calls.
 #[derive(Drop)]
 pub struct Service {
-    register: Register<Count, Tide>,
-    memory: Memory,
+    pub register: Register<Count, Tide>,
+    pub memory: Memory,
 }
 
-// Each call below promises what the register's call promises: the model's step, and the claims over every history that led to it.
+// Each call promises what the register's promises: the model's step, and the claims over every history that led to it.
 impl Service {
-    pub fn new(register: Register<Count, Tide>, memory: Memory) -> Service {
-        Service { register, memory }
-    }
-
     /// Writes the tide.
     pub fn write(&mut self, tide: Tide) -> Result<Reply<Tide>, Refusal>
         ensures { Plays (ModelCall.Write tide) self.old.register (lent self.old.memory) result self.new.register (lent self.new.memory) }
@@ -83,8 +81,10 @@ impl Service {
         )
     }
 
-    /// Closes the register.
-    pub fn close(self) -> Tally {
+    /// Closes the register, and gives its tally.
+    pub fn close(self) -> Tally
+        ensures { result ≡ closed self.register }
+    {
         self.register.close()
     }
 }
