@@ -3,8 +3,7 @@
 //! What it prints is `player::play` of the script; this program only reads and writes.
 #![tactic(auto)]
 
-use anyhow::anyhow;
-use console::{read_script, report};
+use console::{only_argument, read_script, report};
 use player::play;
 use std::env;
 use std::io::Write;
@@ -16,17 +15,12 @@ docs/SCRIPT.md says what a script is and what is answered.
 ";
 
 fn main(rt: HostRuntime) -> ExitCode {
-    report(&rt, run(&rt))
+    report(&rt, "bench", run(&rt))
 }
 
 fn run(rt: &HostRuntime) -> anyhow::Result<()> {
-    let mut words = env::args(rt)?;
-    let _program = words.next();
-    let name = words.next();
-    if words.next().is_some() {
-        return Err(anyhow!("more than one argument; bench --help says what it takes"));
-    }
-    let name = name.as_deref();
+    let words: Vec<String> = env::args(rt)?.collect(rt.alloc())?;
+    let name = only_argument(words.as_slice())?.map(|word| word.as_str());
     if name == Some("--help") {
         rt.stdout().write_all(USAGE.as_bytes())?;
         return Ok(());
