@@ -13,20 +13,27 @@ const MOST_BYTES: u64 = 65537;
 pub fn read_script(rt: &HostRuntime, name: Option<&str>) -> anyhow::Result<Vec<u8>>
     ensures { IfOk result (λ v. vec_len v ≤ 65537) }
 {
-    let Some(name) = name else {
-        return Ok(read_at_most(rt.alloc(), rt.stdin(), MOST_BYTES)?);
-    };
-    match read_file(rt, name) {
-        Ok(script) => Ok(script),
+    match name {
+        Some(name) => read_file(rt, name, MOST_BYTES),
+        None => Ok(read_at_most(rt.alloc(), rt.stdin(), MOST_BYTES)?),
+    }
+}
+
+/// The first bytes in the file of this name, at most so many.
+pub fn read_file(rt: &HostRuntime, name: &str, most: u64) -> anyhow::Result<Vec<u8>>
+    ensures { IfOk result (λ v. vec_len v ≤ most) }
+{
+    match open_and_read(rt, name, most) {
+        Ok(bytes) => Ok(bytes),
         Err(e) => Err(anyhow!(format!(in rt.alloc(); "cannot read {name}: {e}")?)),
     }
 }
 
-fn read_file(rt: &HostRuntime, name: &str) -> io::Result<Vec<u8>>
-    ensures { IfOk result (λ v. vec_len v ≤ 65537) }
+fn open_and_read(rt: &HostRuntime, name: &str, most: u64) -> io::Result<Vec<u8>>
+    ensures { IfOk result (λ v. vec_len v ≤ most) }
 {
     let file = File::open(rt, name)?;
-    read_at_most(rt.alloc(), file, MOST_BYTES)
+    read_at_most(rt.alloc(), file, most)
 }
 
 /// What there is to read, or the first bytes of it, if there are more than so many.

@@ -19,7 +19,7 @@ use std::io;
 use std::process::ExitCode;
 
 fn main(rt: HostRuntime) -> ExitCode {
-    report(&rt, run(&rt))
+    report(&rt, "first_tide", run(&rt))
 }
 
 // No `unwrap` here can fail: the check proves it, from what the makers of rules, drafts, registers and tides promise.
