@@ -88,7 +88,10 @@ pub fn count_sent<F: Copy>(journal: &mut [Operation<F>], lines: u16, operation: 
 fn add_sent<F: Copy>(line: &mut Operation<F>, more: u16)
     ensures { line.new ≡ sent_more line.old more }
 {
-    line.sent = line.sent.saturating_add(more);
+    *line = Operation {
+        sent: line.sent.saturating_add(more),
+        ..*line
+    };
 }
 
 /// Finishes an operation, if one finishes: its line tells so from now on. Gives the answer of the delivery.
