@@ -11,7 +11,7 @@ use model::{Message, Operation, Party, Reader, RelayMark, Replica};
 use quorum::QuorumSystem;
 use tables::Numbers;
 
-/// The line of an operation that is in the journal.
+/// The line of an operation that is in the journal. So it is no `Option`, as `line_of` in `tables` is.
 fn line_of<F: Copy>(journal: &[Operation<F>], operation: u16) -> Operation<F>
     requires { (1 ≤ operation) × (operation ≤ length journal.now) }
     ensures { (lines : ℕ) (d : LineOf F) → operation ≤ length (take lines journal.now) → result ≡ slice_index_or (take lines journal.now) (pred operation) d }

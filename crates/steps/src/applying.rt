@@ -78,6 +78,7 @@ pub fn count_sent<F: Copy>(journal: &mut [Operation<F>], lines: u16, operation: 
     ensures { (start : F) → journal.new ≡ stored (set (take lines journal.old) (operation - 1)
         (sent_more (slice_index_or (take lines journal.old) (operation - 1) (no_line start)) more)) journal.old }
 {
+    // as the model takes 1 off: 0 stays 0
     let at = usize::from(operation).saturating_sub(1);
     if at < usize::from(lines) {
         add_sent(&mut journal[at], more);

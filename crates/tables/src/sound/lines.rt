@@ -10,6 +10,7 @@ use super::parties::is_reader;
 use model::{MessageKind, Operation, OperationKind, Party, ReadKind, Reader};
 
 /// The line of an operation, if the journal has it. Operations are numbered from 1.
+// 1 is taken off at four places, each time of a number of which another thing is known: here it may be 0, and then there is no line.
 pub fn line_of<F: Copy>(lines: &[Operation<F>], operation: u16) -> Option<&Operation<F>>
     ensures { (start : F) (readers : List (ReaderOf F)) →
         MatchOption result (in_journal (judged start readers lines.now) operation ≡ false)
