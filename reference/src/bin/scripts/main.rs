@@ -25,7 +25,8 @@ const USAGE: &str = "usage:
   scripts flavours                          list the flavours
   scripts stats N [SEED]                    count what N scripts cover
   scripts cover FILE...                     count what these scripts cover
-  scripts compare N SEED PROGRAM DIRECTORY  compare a program with the reference
+  scripts compare N SEED PROGRAM DIRECTORY [FLAVOUR...]
+                                            compare a program with the reference
   scripts large NAME                        print a large script for measuring
   scripts large                             list the large scripts";
 
@@ -36,11 +37,12 @@ fn script_of(seed: u64, flavour: Option<Flavour>) -> Vec<u8> {
     compose::script(flavour.unwrap_or(own), &mut random)
 }
 
+fn flavour_named(name: &str) -> Result<Flavour, &'static str> {
+    Flavour::of_name(name).ok_or("no such flavour")
+}
+
 fn make(seed: &str, flavour: Option<&str>) -> Result<bool, Box<dyn Error>> {
-    let flavour = match flavour {
-        Some(name) => Some(Flavour::of_name(name).ok_or("no such flavour")?),
-        None => None,
-    };
+    let flavour = flavour.map(flavour_named).transpose()?;
     io::stdout().write_all(&script_of(seed.parse()?, flavour))?;
     Ok(true)
 }
@@ -62,21 +64,30 @@ fn cover(paths: &[&str]) -> Result<bool, Box<dyn Error>> {
     Ok(coverage.print())
 }
 
-fn compare(arguments: &[&str; 4]) -> Result<bool, Box<dyn Error>> {
+/// Compares scripts of the flavours in turn, or each of its seed's own where there is none.
+fn compare(arguments: &[&str; 4], flavours: &[&str]) -> Result<bool, Box<dyn Error>> {
     let [count, seed, program, directory] = *arguments;
     let (count, seed): (u64, u64) = (count.parse()?, seed.parse()?);
+    let flavours: Vec<_> = flavours
+        .iter()
+        .map(|name| flavour_named(name))
+        .collect::<Result<_, _>>()?;
+    let mut in_turn = flavours.iter().copied().cycle();
     let comparison = Comparison {
         program: PathBuf::from(program),
         directory: PathBuf::from(directory),
     };
     fs::create_dir_all(&comparison.directory)?;
+    let mut lines = 0;
     for (agreed, seed) in (seed..seed + count).enumerate() {
-        if !comparison.agrees(seed, &script_of(seed, None))? {
+        let script = script_of(seed, in_turn.next());
+        if !comparison.agrees(seed, &script)? {
             println!("{agreed} of {count} scripts agreed before the first difference");
             return Ok(false);
         }
+        lines += script.split_inclusive(|&byte| byte == b'\n').count();
     }
-    println!("{count} of {count} scripts agreed");
+    println!("{count} of {count} scripts agreed, of {lines} lines");
     Ok(true)
 }
 
@@ -99,7 +110,9 @@ fn run(arguments: &[&str]) -> Result<bool, Box<dyn Error>> {
         ["stats", count] => stats(count, "1"),
         ["stats", count, seed] => stats(count, seed),
         ["cover", ref paths @ ..] => cover(paths),
-        ["compare", count, seed, program, directory] => compare(&[count, seed, program, directory]),
+        ["compare", count, seed, program, directory, ref flavours @ ..] => {
+            compare(&[count, seed, program, directory], flavours)
+        }
         ["large"] => list(large::LARGE.map(|(name, ..)| name)),
         ["large", name] => print_large(name),
         _ => Err(USAGE.into()),
