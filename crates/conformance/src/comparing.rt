@@ -1,10 +1,28 @@
-ghost use Rattle.std.specs.Prelude.{◌≡◌, ◌≤◌, ◌==◌, ◌↔◌, count_by, length, IsNone, IfSome};
-ghost use Rattle.conformance.specs.Comparing.{line_of_difference, shared_len};
+ghost use Rattle.std.specs.Prelude.{◌≡◌, ◌≤◌, ◌==◌, count_by, is_some, length, IfOk};
+ghost use Rattle.player.specs.Playing.{played};
+ghost use Rattle.conformance.specs.Comparing.{line_of_difference, shared_len, Compared};
 
-/// The number of the first line in which two texts differ, counted from 1. None where they are the same.
-pub fn first_difference(one: &[u8], other: &[u8]) -> Option<usize>
-    ensures same { IsNone result ↔ (one.now ≡ other.now) }
-    ensures line { IfSome result (λ line. line ≡ line_of_difference one.now other.now) }
+use player::play;
+use std::alloc::{AllocError, Global};
+
+/// Plays a script. The number of the first line in which its answers are not the stored ones, if there is one.
+pub fn compare(heap: Global, script: &[u8], stored: &[u8]) -> Result<Option<usize>, AllocError>
+    ensures { IfOk result (Compared (played script.now) stored.now) }
+{
+    let answers = play(heap, script)?;
+    Ok(first_difference(answers.as_slice(), stored))
+}
+
+/// How many of the scripts differ.
+pub fn differing(differences: &[Option<usize>]) -> usize
+    ensures { result ≡ count_by is_some differences.now }
+{
+    differences.iter().filter(|line| line.is_some()).count()
+}
+
+// The number of the first line in which two texts differ, counted from 1. None where they are the same.
+fn first_difference(one: &[u8], other: &[u8]) -> Option<usize>
+    ensures { Compared one.now other.now result }
 {
     if one == other {
         return None;

@@ -30,7 +30,8 @@ fn run(rt: &HostRuntime) -> anyhow::Result<()> {
     }
     let index = pack::read_index(rt, folder)?;
     let names: Vec<&str> = index.lines().collect(rt.alloc())?;
-    let differ = pack::compare_all(rt, folder, names.as_slice())?;
+    let found = pack::compare_all(rt, folder, names.as_slice())?;
+    let differ = comparing::differing(found.as_slice());
     println!(rt; "{} scripts, {differ} differ", names.len())?;
     if differ != 0 {
         return Err(anyhow!("not all answers are the stored ones"));

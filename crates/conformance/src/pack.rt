@@ -1,9 +1,8 @@
-ghost use Rattle.std.specs.Prelude.{◌≤◌, length, IfOk};
+ghost use Rattle.std.specs.Prelude.{◌≡◌, length, vec_len, IfOk};
 
-use crate::comparing::first_difference;
+use crate::comparing::compare;
 use anyhow::{Context, anyhow};
 use console::{read_file, read_script};
-use player::play;
 
 // A longer index is refused.
 const MOST_INDEX_BYTES: u64 = 65536;
@@ -21,29 +20,31 @@ pub fn read_index(rt: &HostRuntime, folder: &str) -> anyhow::Result<String> {
     String::from_utf8(bytes).context(format_args!("{name} is no text"))
 }
 
-/// Plays the scripts of these names, and tells of each whether its answers are the stored ones. How many differ.
-pub fn compare_all(rt: &HostRuntime, folder: &str, names: &[&str]) -> anyhow::Result<usize>
-    ensures { IfOk result (λ n. n ≤ length names.now) }
+/// Plays the scripts of these names, and tells of each whether its answers are the stored ones: what it found of each.
+pub fn compare_all(
+    rt: &HostRuntime,
+    folder: &str,
+    names: &[&str],
+) -> anyhow::Result<Vec<Option<usize>>>
+    ensures { IfOk result (λ found. vec_len found ≡ length names.now) }
 {
-    let mut differ = 0;
+    let mut found = Vec::new(rt.alloc());
     for name in names {
-        match compare(rt, folder, name)? {
+        let difference = compare_stored(rt, folder, name)?;
+        match difference {
             None => println!(rt; "agrees {name}")?,
-            Some(line) => {
-                println!(rt; "differs {name} at line {line}")?;
-                differ += 1;
-            }
+            Some(line) => println!(rt; "differs {name} at line {line}")?,
         }
+        found.push(difference)?;
     }
-    Ok(differ)
+    Ok(found)
 }
 
-// The first line at which the answers to a script differ from the stored ones.
-fn compare(rt: &HostRuntime, folder: &str, name: &str) -> anyhow::Result<Option<usize>> {
+// Compares the answers to the script of this name with the stored ones.
+fn compare_stored(rt: &HostRuntime, folder: &str, name: &str) -> anyhow::Result<Option<usize>> {
     let script = format!(in rt.alloc(); "{folder}/{name}.script")?;
     let answers = format!(in rt.alloc(); "{folder}/{name}.answers")?;
     let script = read_script(rt, Some(script.as_str()))?;
     let stored = read_file(rt, answers.as_str(), MOST_ANSWER_BYTES)?;
-    let played = play(rt.alloc(), script.as_slice())?;
-    Ok(first_difference(played.as_slice(), stored.as_slice()))
+    Ok(compare(rt.alloc(), script.as_slice(), stored.as_slice())?)
 }

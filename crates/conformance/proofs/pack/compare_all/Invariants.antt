@@ -1,6 +1,6 @@
-use Rattle.std.proofs.Common.{◌≤◌}
+use Rattle.std.proofs.Common.{◌≡◌, vec_len}
 use Rattle.conformance.proofs.pack.compare_all.Given as goal
 
--- of the scripts so far, no more differ than there are
+-- one is found for each of the names so far
 abbrev pub invariant-loop-name : goal.invariant-loop-name
-invariant-loop-name l = l.differ ≤ l.name-index
+invariant-loop-name l = vec_len l.found ≡ l.name-index
