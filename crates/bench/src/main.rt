@@ -3,8 +3,8 @@
 //! What it prints is `player::play` of the script; this program only reads and writes.
 #![tactic(auto)]
 
-use console::{only_argument, read_script, report};
-use player::play;
+use console::{only_argument, read_input, report};
+use player::{MOST_BYTES, play};
 use std::env;
 use std::io::Write;
 use std::process::ExitCode;
@@ -25,7 +25,8 @@ fn run(rt: &HostRuntime) -> anyhow::Result<()> {
         rt.stdout().write_all(USAGE.as_bytes())?;
         return Ok(());
     }
-    let script = read_script(rt, name)?;
+    // one byte more than a script may have: so one that is too long is seen to be
+    let script = read_input(rt, name, MOST_BYTES as u64 + 1)?;
     let answers = play(rt.alloc(), script.as_slice())?;
     rt.stdout().write_all(answers.as_slice())?;
     Ok(())

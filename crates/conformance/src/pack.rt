@@ -2,13 +2,14 @@ ghost use Rattle.std.specs.Prelude.{◌≡◌, length, vec_len, IfOk};
 
 use crate::comparing::compare;
 use anyhow::{Context, anyhow};
-use console::{read_file, read_script};
+use console::read_file;
+use player::MOST_BYTES;
 
 // A longer index is refused.
 const MOST_INDEX_BYTES: u64 = 65536;
 
-// A script has at most 65,536 lines, and an answer at most 80 bytes. One byte more shows that a stored file is too long.
-const MOST_ANSWER_BYTES: u64 = 65536 * 80 + 1;
+// A script has at most as many lines as bytes, and an answer at most 80 bytes. One byte more shows that a stored file is too long.
+const MOST_ANSWER_BYTES: u64 = MOST_BYTES as u64 * 80 + 1;
 
 /// The names of a pack's scripts, one a line.
 pub fn read_index(rt: &HostRuntime, folder: &str) -> anyhow::Result<String> {
@@ -44,7 +45,8 @@ pub fn compare_all(
 fn compare_stored(rt: &HostRuntime, folder: &str, name: &str) -> anyhow::Result<Option<usize>> {
     let script = format!(in rt.alloc(); "{folder}/{name}.script")?;
     let answers = format!(in rt.alloc(); "{folder}/{name}.answers")?;
-    let script = read_script(rt, Some(script.as_str()))?;
+    // one byte more than a script may have: so one that is too long is seen to be
+    let script = read_file(rt, script.as_str(), MOST_BYTES as u64 + 1)?;
     let stored = read_file(rt, answers.as_str(), MOST_ANSWER_BYTES)?;
     Ok(compare(rt.alloc(), script.as_slice(), stored.as_slice())?)
 }

@@ -7,4 +7,4 @@ mod reading;
 
 pub use arguments::only_argument;
 pub use ending::report;
-pub use reading::{read_at_most, read_file, read_script};
+pub use reading::{read_at_most, read_file, read_input};

@@ -6,16 +6,13 @@ use std::fs::File;
 use std::io;
 use std::io::Read;
 
-// No more bytes of a script are read than suffice to decline it for its length.
-const MOST_BYTES: u64 = 65537;
-
-/// The script in the file of this name, or the one on standard input. What a file holds no clause can say.
-pub fn read_script(rt: &HostRuntime, name: Option<&str>) -> anyhow::Result<Vec<u8>>
-    ensures { IfOk result (λ v. vec_len v ≤ 65537) }
+/// The first bytes in the file of this name, or else on standard input, at most so many. What a file holds no clause can say.
+pub fn read_input(rt: &HostRuntime, name: Option<&str>, most: u64) -> anyhow::Result<Vec<u8>>
+    ensures { IfOk result (λ v. vec_len v ≤ most) }
 {
     match name {
-        Some(name) => read_file(rt, name, MOST_BYTES),
-        None => Ok(read_at_most(rt.alloc(), rt.stdin(), MOST_BYTES)?),
+        Some(name) => read_file(rt, name, most),
+        None => Ok(read_at_most(rt.alloc(), rt.stdin(), most)?),
     }
 }
 

@@ -7,4 +7,4 @@ mod printing;
 mod setting_up;
 mod turn;
 
-pub use playing::play;
+pub use playing::{MOST_BYTES, play};

@@ -16,8 +16,8 @@ use script::{Header, Kind, ScriptFault, TextFault, read_header};
 use std::alloc::{AllocError, Global};
 use text::LineCursor;
 
-// A longer script is not read.
-const MOST_BYTES: usize = 65536;
+/// How long a script may be. A longer one is declined whole.
+pub const MOST_BYTES: usize = 65536;
 
 /// What is printed for a script, whatever its bytes are.
 #[tactic(auto, using(crate::proofs::Serving::script_served))]

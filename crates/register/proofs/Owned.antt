@@ -15,7 +15,7 @@ use Rattle.model.specs.Answers.{Answer}
 use Rattle.model.specs.State.{State}
 use Rattle.model.specs.Sound.{sound}
 use Rattle.model.specs.Steps.{Outcome, step}
-use Rattle.model.specs.History.{event, Grows, more}
+use Rattle.model.specs.History.{History, event, Grows, more}
 use Rattle.model.proofs.Serving.{serves}
 use Rattle.model.proofs.SoundCalls.{sound_kept}
 use Rattle.tables.specs.declared.numbers.Numbers.{Numbers}
@@ -160,12 +160,14 @@ module _ {R F : Type 0} {g : Ghosts R} (x : Cluster R F g) (c : Call F) (loan : 
       → cluster_state x' ≡ after → Steps c x r x'
   steps x' same_rule same_start state =
       let e : cluster_state x' ≡ (step rule (cluster_state x) c).next = state ∙ next in
+      let longer : (h : History F) → Grows rule start h (cluster_state x)
+      → Grows rule start (h ++ event c (step rule (cluster_state x) c) ∷ []) (cluster_state x') =
+      λ h grows. subst (λ (s : State F). Grows rule start (h ++ event c (step rule (cluster_state x) c) ∷ []) s) (sym e) (more grows c) in
       record {
         rule = ap (λ (a : R). rule_of g a) same_rule;
         start = same_start;
         answer = did.answer ∙ ap (λ (o : Outcome F). o.reply) stepped;
         state = e;
-        serves = λ h grows law.
-            serves F rule law start _ _
-            (subst (λ (s : State F). Grows rule start (h ++ event c (step rule (cluster_state x) c) ∷ []) s) (sym e) (more grows c));
+        grows = longer;
+        serves = λ h grows law. serves F rule law start _ _ (longer h grows);
       }

@@ -67,6 +67,8 @@ pub record Steps {R F : Type 0} {g : Ghosts R} (c : Call F) (x : Cluster R F g) 
   pub start : x'.register.start ≡ x.register.start
   pub answer : r ≡ (step (cluster_rule x) (cluster_state x) c).reply
   pub state : cluster_state x' ≡ (step (cluster_rule x) (cluster_state x) c).next
+  pub grows : (h : History F) → Grows (cluster_rule x) x.register.start h (cluster_state x)
+      → Grows (cluster_rule x) x.register.start (h ++ event c (step (cluster_rule x) (cluster_state x) c) ∷ []) (cluster_state x')
   pub serves : (h : History F) → Grows (cluster_rule x) x.register.start h (cluster_state x) → Lawful (cluster_rule x)
       → Served (cluster_rule x) x.register.start (h ++ event c (step (cluster_rule x) (cluster_state x) c) ∷ [])
       (cluster_state x')

@@ -72,7 +72,8 @@ pub fn send<F: Copy>(messages: &mut [Message<F>], used: usize, size: u32, post: 
     }
 }
 
-/// Counts messages to the line of their operation, if it is among those in use. Counts stop at 65,535.
+/// Counts messages to the line of their operation (of operation 0, which nothing is sent for, to the first), if it is among those in use.
+/// Counts stop at 65,535.
 pub fn count_sent<F: Copy>(journal: &mut [Operation<F>], lines: u16, operation: u16, more: u16)
     requires { lines ≤ length journal.old }
     ensures { (start : F) → journal.new ≡ stored (set (take lines journal.old) (operation - 1)

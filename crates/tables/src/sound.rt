@@ -1,4 +1,4 @@
-//! Whether lent tables are sound, that is, may be those of a register in service: one pass over each of them.
+//! Whether lent tables are sound, that is, may be those of a register in service: one pass over readers, marks and messages.
 ghost use Rattle.std.specs.Prelude.{◌≡◌, ◌≤◌, ◌&&◌, List, length, take};
 ghost use Rattle.std.specs.List.{list_all};
 ghost use Rattle.quorum.specs.Sets.{Rule};
@@ -19,8 +19,8 @@ mod parties;
 mod records;
 mod sets;
 
-/// Whether the tables may be those of a register in service. Of the messages those that wait are judged, and of the
-/// journal the lines in use.
+/// Whether the tables may be those of a register in service. Of the messages those that wait are judged; of the journal, the lines
+/// that a reader or a waiting message names.
 pub fn tables_sound<F: Copy>(
     numbers: &Numbers,
     readers: &[Reader<F>],

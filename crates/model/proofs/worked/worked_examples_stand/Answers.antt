@@ -10,4 +10,7 @@ returns c = record {
   relay_alone = λ start. refl;
   five_places = λ start figure. refl;
   listing = λ start first second. refl;
+  rounds = λ start figure. refl;
+  halts = λ start figure. refl;
+  losses = λ start figure. refl;
 }
