@@ -3,7 +3,7 @@ use Rattle.std.specs.Prelude.{◌≡◌, ℕ, true, false, ◌||◌, List, [], �
 use Rattle.quorum.specs.declared.refusal.RuleRefusal.{RuleRefusal}
 use Rattle.quorum.specs.Sets.{Members, Rule}
 use Rattle.quorum.specs.Families.{count_rule, grid_rule, lead_rule, grouped_rule}
-use Rattle.quorum.specs.Refusals.{number, count_refusal}
+use Rattle.quorum.specs.Refusals.{number, count_refusal, lead_refusal, product_refusal}
 
 -- The set of the listed replicas.
 abbrev pub these : List ℕ → Members
@@ -46,6 +46,17 @@ pub record RuleExamples : Type 0 where
   -- three pairs, of which one may fail
   pub groups_round : Round three_pairs (0 ∷ 1 ∷ 2 ∷ 3 ∷ [])
   pub groups_hold : HoldOnly three_pairs (0 ∷ 2 ∷ 4 ∷ [])
-  -- half may not fail, and there is at least one replica
+  -- half may not fail, and there are 1 to 24 replicas, which is tested first
   pub half_faulty : numbered (count_refusal 4 2) ≡ Some 2
   pub no_replica : numbered (count_refusal 0 0) ≡ Some 1
+  pub too_many : numbered (count_refusal 25 13) ≡ Some 1
+  -- a lead is one of the replicas below
+  pub lead_outside : numbered (lead_refusal 3 3) ≡ Some 1
+  pub lead_of_none : numbered (lead_refusal 0 0) ≡ Some 1
+  pub lead_of_many : numbered (lead_refusal 25 0) ≡ Some 1
+  pub lead_inside : numbered (lead_refusal 3 2) ≡ None
+  -- neither rows nor columns may be missing, and together they are at most 24
+  pub no_row : numbered (product_refusal 0 3) ≡ Some 1
+  pub no_column : numbered (product_refusal 3 0) ≡ Some 1
+  pub large_grid : numbered (product_refusal 5 5) ≡ Some 1
+  pub full_grid : numbered (product_refusal 4 6) ≡ None

@@ -1,6 +1,6 @@
 -- The meaning of each rule: its size and its two families.
-use Rattle.std.specs.Prelude.{◌≡◌, ℕ, ◌+◌, ◌-◌, ◌*◌, ◌^◌, ◌<◌, Bool, ◌&&◌, ◌||◌, nat_le, nat_lt}
-use Rattle.quorum.specs.Sets.{Members, Family, Rule, bits, count, every, some}
+use Rattle.std.specs.Prelude.{ℕ, ◌+◌, ◌-◌, ◌*◌, ◌&&◌, ◌||◌, nat_le, nat_lt}
+use Rattle.quorum.specs.Sets.{Members, Family, Rule, count, every, some}
 
 -- Of s replicas at most f fail.
 abbrev pub count_rule : ℕ → ℕ → Rule
@@ -48,7 +48,3 @@ grouped_rule m n outer inner = record {
   round = λ p. outer.round (grouped m n inner.round p);
   hold = λ p. outer.hold (grouped m n inner.hold p);
 }
-
--- A test decides a family: what it answers of a mask is whether the mask's set is in the family.
-abbrev pub Judges : (ℕ → Bool → Type 0) → Family → Type 0
-Judges answers family = (mask : ℕ) (answer : Bool) → mask < 2 ^ 32 → answers mask answer → answer ≡ family (bits mask)

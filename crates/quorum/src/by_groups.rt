@@ -1,7 +1,7 @@
 ghost use Rattle.std.specs.Prelude.{◌≡◌, IfOk};
-ghost use Rattle.quorum.specs.Sets.{Family, bits};
+ghost use Rattle.quorum.specs.Sets.{Family, Judges, bits};
 ghost use Rattle.quorum.specs.Meaning.{rule_of};
-ghost use Rattle.quorum.specs.Families.{Judges, grouped, grouped_rule};
+ghost use Rattle.quorum.specs.Families.{grouped, grouped_rule};
 ghost use Rattle.std.specs.Result.{result_err};
 ghost use Rattle.quorum.specs.Refusals.{Product, product_refusal};
 ghost use Rattle.quorum.specs.Laws.{Lawful};
