@@ -1,7 +1,8 @@
+ghost use Rattle.std.specs.Prelude.{◌≡◌};
+ghost use Rattle.first_tide.specs.Lent.{blank};
+
 use figure::{FigureKind, Tide};
-use model::{
-    Message, MessageKind, Operation, OperationKind, Party, Phase, Reader, RelayMark, Replica,
-};
+use model::{Message, Operation, Reader, RelayMark, Replica};
 
 /// The five tables of a register for three replicas and one reader, with room for 16 messages and 8 operations.
 #[derive(Drop)]
@@ -15,57 +16,16 @@ pub struct Memory {
 
 impl Memory {
     /// Tables with nothing in them yet. Commissioning fills what has to be filled; the rest may hold anything.
-    pub fn blank() -> Memory {
+    pub fn blank() -> Memory
+        ensures { result ≡ blank }
+    {
+        let tide = Tide::start();
         Memory {
-            replicas: [replica(); 3],
-            readers: [reader(); 1],
+            replicas: [Replica::new(tide); 3],
+            readers: [Reader::new(tide)],
             marks: [RelayMark::default(); 3],
-            messages: [message(); 16],
-            journal: [operation(); 8],
+            messages: [Message::blank(tide); 16],
+            journal: [Operation::blank(tide); 8],
         }
-    }
-}
-
-fn replica() -> Replica<Tide> {
-    Replica {
-        stamp: 0,
-        figure: Tide::start(),
-        halted: false,
-    }
-}
-
-fn reader() -> Reader<Tide> {
-    Reader {
-        halted: false,
-        operation: 0,
-        phase: Phase::Idle,
-        replies: 0,
-        best_stamp: 0,
-        best_figure: Tide::start(),
-        holders: 0,
-    }
-}
-
-fn message() -> Message<Tide> {
-    Message {
-        kind: MessageKind::Query,
-        operation: 0,
-        sender: Party::Writer,
-        receiver: Party::Writer,
-        stamp: 0,
-        figure: Tide::start(),
-    }
-}
-
-fn operation() -> Operation<Tide> {
-    Operation {
-        kind: OperationKind::Write,
-        owner: Party::Writer,
-        started: 0,
-        finished: 0,
-        exchanges: 0,
-        stamp: 0,
-        figure: Tide::start(),
-        sent: 0,
     }
 }

@@ -1,3 +1,6 @@
+ghost use Rattle.std.specs.Prelude.{◌≡◌};
+ghost use Rattle.model.specs.State.{no_line};
+
 use crate::parties::Party;
 
 /// How a read goes.
@@ -30,4 +33,23 @@ pub struct Operation<F> {
     pub figure: F,
     /// How many messages were sent for it, up to 65,535.
     pub sent: u16,
+}
+
+impl<F> Operation<F> {
+    /// What a line may hold that is not in use yet.
+    #[tactic(auto, unfolding(crate::specs::Stamps::no_stamp))]
+    pub fn blank(figure: F) -> Operation<F>
+        ensures { result ≡ no_line figure }
+    {
+        Operation {
+            kind: OperationKind::Write,
+            owner: Party::Writer,
+            started: 0,
+            finished: 0,
+            exchanges: 0,
+            stamp: 0,
+            figure,
+            sent: 0,
+        }
+    }
 }

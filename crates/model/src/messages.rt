@@ -1,3 +1,6 @@
+ghost use Rattle.std.specs.Prelude.{◌≡◌};
+ghost use Rattle.model.specs.State.{no_message};
+
 use crate::parties::Party;
 
 /// What a message is for. Each request stands before its answer.
@@ -29,4 +32,21 @@ pub struct Message<F> {
     pub receiver: Party,
     pub stamp: u32,
     pub figure: F,
+}
+
+impl<F> Message<F> {
+    /// What a place may hold in which no message has waited yet.
+    #[tactic(auto, unfolding(crate::specs::Stamps::no_stamp))]
+    pub fn blank(figure: F) -> Message<F>
+        ensures { result ≡ no_message figure }
+    {
+        Message {
+            kind: MessageKind::Query,
+            operation: 0,
+            sender: Party::Writer,
+            receiver: Party::Writer,
+            stamp: 0,
+            figure,
+        }
+    }
 }

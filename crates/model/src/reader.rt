@@ -1,3 +1,6 @@
+ghost use Rattle.std.specs.Prelude.{◌≡◌};
+ghost use Rattle.model.specs.State.{new_reader};
+
 /// What a reader waits for.
 #[derive(Clone, Copy, PartialEq, Eq)]
 pub enum Phase {
@@ -22,4 +25,23 @@ pub struct Reader<F> {
     pub best_stamp: u32,
     pub best_figure: F,
     pub holders: u32,
+}
+
+impl<F> Reader<F> {
+    /// A new reader, idle, which has found nothing but the figure that the register begins with.
+    // No `Default`: a new record needs that figure.
+    #[tactic(auto, unfolding(crate::specs::Stamps::no_stamp))]
+    pub fn new(figure: F) -> Reader<F>
+        ensures { result ≡ new_reader figure }
+    {
+        Reader {
+            halted: false,
+            operation: 0,
+            phase: Phase::Idle,
+            replies: 0,
+            best_stamp: 0,
+            best_figure: figure,
+            holders: 0,
+        }
+    }
 }

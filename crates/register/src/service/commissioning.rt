@@ -1,11 +1,10 @@
 ghost use Rattle.std.specs.Prelude.{◌≡◌, ◌*◌, true, length};
-ghost use Rattle.model.specs.State.{new_replica, new_reader};
 ghost use Rattle.tables.specs.View.{tables};
 ghost use Rattle.register.specs.Commissioning.{new_numbers, parties_fit};
 ghost use Rattle.register.specs.Service.{rooms_fit, allowed, Opened, Commissioned};
 
 use super::{Draft, Register, Uncommissioned};
-use model::{Message, Operation, Phase, Reader, Refusal, RelayMark, Replica, Writer};
+use model::{Message, Operation, Reader, Refusal, RelayMark, Replica, Writer};
 use quorum::QuorumSystem;
 use tables::Numbers;
 
@@ -33,8 +32,8 @@ impl<R: QuorumSystem, F: Copy> Draft<R, F> {
         }
         let start = self.start;
         // `fill` asks for a clone that cannot fail, which `F: Copy` does not promise
-        replicas.fill_with(|| new_replica(start));
-        readers.fill_with(|| new_reader(start));
+        replicas.fill_with(|| Replica::new(start));
+        readers.fill_with(|| Reader::new(start));
         marks.fill(RelayMark::default());
         Ok(self.open(messages.len(), journal.len()))
     }
@@ -105,33 +104,5 @@ fn new_numbers(replicas: u32, readers: u32, message_room: usize, journal_room: u
         waiting: 0,
         lines: 0,
         finished: 0,
-    }
-}
-
-// A new replica and a new reader, by functions and not by `Default`: they begin with the register's figure.
-
-#[tactic(auto, unfolding(model::specs::Stamps::no_stamp))]
-pub(super) fn new_replica<F: Copy>(figure: F) -> Replica<F>
-    ensures { result ≡ new_replica figure }
-{
-    Replica {
-        stamp: 0,
-        figure,
-        halted: false,
-    }
-}
-
-#[tactic(auto, unfolding(model::specs::Stamps::no_stamp))]
-pub(super) fn new_reader<F: Copy>(figure: F) -> Reader<F>
-    ensures { result ≡ new_reader figure }
-{
-    Reader {
-        halted: false,
-        operation: 0,
-        phase: Phase::Idle,
-        replies: 0,
-        best_stamp: 0,
-        best_figure: figure,
-        holders: 0,
     }
 }

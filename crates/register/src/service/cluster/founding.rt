@@ -4,8 +4,7 @@ ghost use Rattle.register.specs.Clusters.{Made, Founded};
 
 use super::{Cluster, OwnedTables, Unfounded, UnfoundedCause};
 use crate::service::Draft;
-use crate::service::commissioning::{new_reader, new_replica};
-use model::{Message, MessageKind, Operation, OperationKind, Party, RelayMark};
+use model::{Message, Operation, Reader, RelayMark, Replica};
 use quorum::QuorumSystem;
 use std::alloc::{AllocError, Global};
 
@@ -52,13 +51,13 @@ impl<R: QuorumSystem, F: Copy> Draft<R, F> {
         let size = self.rule.size() as usize;
         let width = self.readers as usize;
         Ok(OwnedTables {
-            replicas: filled(heap, size, new_replica(start))?,
-            readers: filled(heap, width, new_reader(start))?,
+            replicas: filled(heap, size, Replica::new(start))?,
+            readers: filled(heap, width, Reader::new(start))?,
             marks: filled(heap, size * width, RelayMark::default())?,
             // as much room again, so that the table seldom has to move
-            queue: filled(heap, 2 * message_room, blank_message(start))?,
+            queue: filled(heap, 2 * message_room, Message::blank(start))?,
             head: 0,
-            journal: filled(heap, journal_room, blank_line(start))?,
+            journal: filled(heap, journal_room, Operation::blank(start))?,
         })
     }
 }
@@ -70,30 +69,4 @@ fn filled<A: Copy>(heap: Global, count: usize, item: A) -> Result<Vec<A>, AllocE
     let mut table = Vec::new(heap);
     table.resize(count, item)?;
     Ok(table)
-}
-
-// What a place holds in which no message has waited.
-fn blank_message<F: Copy>(start: F) -> Message<F> {
-    Message {
-        kind: MessageKind::Query,
-        operation: 0,
-        sender: Party::Writer,
-        receiver: Party::Writer,
-        stamp: 0,
-        figure: start,
-    }
-}
-
-// What a line holds that was not in use.
-fn blank_line<F: Copy>(start: F) -> Operation<F> {
-    Operation {
-        kind: OperationKind::Write,
-        owner: Party::Writer,
-        started: 0,
-        finished: 0,
-        exchanges: 0,
-        stamp: 0,
-        figure: start,
-        sent: 0,
-    }
 }
