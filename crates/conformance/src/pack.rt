@@ -1,4 +1,4 @@
-ghost use Rattle.std.specs.Prelude.{◌≡◌, length, vec_len, IfOk};
+ghost use Rattle.std.specs.Prelude.{◌≡◌, ◌≤◌, length, string_len, vec_len, IfOk};
 
 use crate::comparing::compare;
 use anyhow::{Context, anyhow};
@@ -12,7 +12,9 @@ const MOST_INDEX_BYTES: u64 = 65536;
 const MOST_ANSWER_BYTES: u64 = MOST_BYTES as u64 * 80 + 1;
 
 /// The names of a pack's scripts, one a line.
-pub fn read_index(rt: &HostRuntime, folder: &str) -> anyhow::Result<String> {
+pub fn read_index(rt: &HostRuntime, folder: &str) -> anyhow::Result<String>
+    ensures { IfOk result (λ names. string_len names ≤ 65536) }
+{
     let name = format!(in rt.alloc(); "{folder}/index")?;
     let bytes = read_file(rt, name.as_str(), MOST_INDEX_BYTES + 1)?;
     if bytes.len() as u64 > MOST_INDEX_BYTES {
