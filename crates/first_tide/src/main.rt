@@ -11,7 +11,7 @@ mod service;
 use console::report;
 use figure::{FigureKind, Tide};
 use memory::Memory;
-use model::{Refusal, Reply};
+use model::{Call, Refusal, Reply};
 use quorum::Count;
 use register::Draft;
 use service::Service;
@@ -58,7 +58,11 @@ fn run(rt: &HostRuntime) -> anyhow::Result<()> {
     tell(rt, "lose", service.lose())?;
     tell(rt, "lose", service.lose())?;
     tell(rt, "quick read", service.read())?;
-    deliver(rt, &mut service, 13)?;
+    // the rest as one list of calls
+    let answers = service.run(rt.alloc(), &[Call::Deliver(0); 13])?;
+    for answer in answers.iter() {
+        tell(rt, "deliver", *answer)?;
+    }
 
     let tally = service.close();
     println!(rt;

@@ -1,15 +1,17 @@
-ghost use Rattle.std.specs.Prelude.{◌≡◌};
+ghost use Rattle.std.specs.Prelude.{◌≡◌, MatchResult};
 ghost use Rattle.model.specs.declared.calls.Call.{Call as ModelCall};
 ghost use Rattle.model.specs.declared.journal.ReadKind.{ReadKind as ModelReadKind};
 ghost use Rattle.register.specs.Calls.{Plays};
+ghost use Rattle.register.specs.Runs.{Runs};
 ghost use Rattle.register.specs.Service.{closed};
 ghost use Rattle.first_tide.specs.Lent.{lent};
 
 use crate::memory::Memory;
 use figure::Tide;
-use model::{ReadKind, Refusal, Reply};
+use model::{Call, ReadKind, Refusal, Reply};
 use quorum::Count;
 use register::{Register, Tally};
+use std::alloc::{AllocError, Global};
 
 /// A register in service, and the memory that is lent to each of its calls.
 #[derive(Drop)]
@@ -78,6 +80,28 @@ impl Service {
             &mut memory.messages,
             &memory.journal,
             0,
+        )
+    }
+
+    /// Does the calls one after the other, and gives their answers. For want of memory none is done.
+    pub fn run(
+        &mut self,
+        heap: Global,
+        calls: &[Call<Tide>],
+    ) -> Result<Vec<Result<Reply<Tide>, Refusal>>, AllocError>
+        ensures { MatchResult result
+            (λ replies. Runs calls.now self.old.register (lent self.old.memory) replies.items self.new.register (lent self.new.memory))
+            (λ _. (self.new.register ≡ self.old.register) × (lent self.new.memory ≡ lent self.old.memory)) }
+    {
+        let Service { register, memory } = self;
+        register.run(
+            heap,
+            &mut memory.replicas,
+            &mut memory.readers,
+            &mut memory.marks,
+            &mut memory.messages,
+            &mut memory.journal,
+            calls,
         )
     }
 
