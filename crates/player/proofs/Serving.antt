@@ -1,5 +1,5 @@
 -- The claims over a script.
-use Rattle.std.proofs.Common.{◌≡◌, ℕ, ◌+◌, List, [], ◌∷◌, ◌++◌, Ok, Err, Result, refl, ap}
+use Rattle.std.proofs.Common.{◌≡◌, ℕ, ◌+◌, List, [], ◌∷◌, ◌++◌, None, Ok, Err, Result, refl, ap}
 use Rattle.quorum.specs.Sets.{Rule}
 use Rattle.figure.specs.contracts.order.DigOrderFigureKind.TheImpl.{ghosts as order_kind}
 use Rattle.figure.specs.contracts.tide.TideFigureKind.TheImpl.{ghosts as tide_kind}
@@ -38,7 +38,7 @@ module _ {F : Type 0} (kind : Ghosts F) (rule : Rule) where
       by rest (Ok c) = ap (λ x. line_shown kind.shown n (answer_of (step rule s c).reply) ++ x) (rest (step rule s c).next)
       by rest (Err e) = ap (λ x. line_shown kind.shown n (Err (ScriptFault.Text e)) ++ x) (rest s)
 
-served_calls : {F : Type 0} (kind : Ghosts F) (h : Header) (ls : List (List ℕ)) → opening h ≡ Ok tt → ServedCalls kind h ls
+served_calls : {F : Type 0} (kind : Ghosts F) (h : Header) (ls : List (List ℕ)) → opening h ≡ None → ServedCalls kind h ls
 served_calls {F} kind h ls e = record {
   lawful = laws h e;
   told_as = told_as kind (rule_said h.rule) ls (set_up kind h) 2;
@@ -47,7 +47,7 @@ served_calls {F} kind h ls e = record {
       (runs_grow (rule_said h.rule) kind.starting [] (set_up kind h) (begun h.readers 1024 256) (calls_in kind ls));
 }
 
-by_kind : (k : Kind) (h : Header) (ls : List (List ℕ)) → opening h ≡ Ok tt → served_kind k h ls
+by_kind : (k : Kind) (h : Header) (ls : List (List ℕ)) → opening h ≡ None → served_kind k h ls
 by_kind Kind.Tide h ls e = served_calls tide_kind h ls e
 by_kind Kind.Order h ls e = served_calls order_kind h ls e
 

@@ -5,7 +5,6 @@ use Rattle.figure.specs.contracts.order.DigOrderFigureKind.TheImpl.{ghosts as or
 use Rattle.figure.specs.contracts.tide.TideFigureKind.TheImpl.{ghosts as tide_kind}
 use Rattle.figure.specs.declared.kind.FigureKind.{Ghosts}
 use Rattle.text.specs.Lines.{lines}
-use Rattle.quorum.specs.declared.refusal.RuleRefusal.{RuleRefusal}
 use Rattle.model.specs.declared.calls.Call.{Call}
 use Rattle.model.specs.declared.answers.Reply.{Reply}
 use Rattle.model.specs.State.{State, fresh}
@@ -57,24 +56,14 @@ by_kind Kind.Order h ls = call_answers order_kind h ls
 abbrev pub plain_line : ℕ → LineAnswer (Unit {0}) → List ℕ
 plain_line n a = line_shown (λ u. []) n a
 
--- What is printed for a script with this header, where the making of its draft answers this: a refusal ends the run.
-abbrev pub headed : {F : Type 0} → Ghosts F → Header → Result (Unit {0}) RuleRefusal → List (List ℕ) → List ℕ
-headed kind h (Ok u) ls = plain_line 1 (Ok Reply.Done) ++ call_answers kind h ls
-headed kind h (Err e) ls = plain_line 1 (Err (ScriptFault.Rule e))
-
--- Whether a making answered a draft or a refusal, and which.
-abbrev pub whether : {A : Type 0} → Result A RuleRefusal → Result (Unit {0}) RuleRefusal
-whether (Ok a) = Ok tt
-whether (Err e) = Err e
-
--- A declined first line ends the run.
-abbrev pub opened : Result Header ScriptFault → List (List ℕ) → List ℕ
-opened (Ok h) ls = plain_line 1 (Ok Reply.Done) ++ by_kind h.kind h ls
-opened (Err e) ls = plain_line 1 (Err e)
+-- The answer to the first line, and behind it those to the call lines. A declined first line ends the run.
+abbrev pub opened : (Header → List ℕ) → Result Header ScriptFault → List ℕ
+opened rest (Ok h) = plain_line 1 (Ok Reply.Done) ++ rest h
+opened rest (Err e) = plain_line 1 (Err e)
 
 abbrev pub script_answers : List (List ℕ) → List ℕ
 script_answers [] = []
-script_answers (first ∷ ls) = opened (opening_of first) ls
+script_answers (first ∷ ls) = opened (λ h. by_kind h.kind h ls) (opening_of first)
 
 -- THE SCRIPT: one of over 65,536 bytes is not read.
 

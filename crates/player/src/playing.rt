@@ -1,8 +1,8 @@
 ghost use Rattle.std.specs.Prelude.{◌≡◌, ◌≤◌, ◌++◌, length, IfOk, OnOk};
 ghost use Rattle.text.specs.LineCursors.{lines_ahead};
-ghost use Rattle.script.specs.Openings.{opening, opened as opened_header};
+ghost use Rattle.script.specs.Openings.{opening, accepted};
 ghost use Rattle.register.specs.Clusters.{cluster_state, cluster_rule};
-ghost use Rattle.player.specs.Playing.{answers, headed, opened, played};
+ghost use Rattle.player.specs.Playing.{answers, call_answers, by_kind, opened, played};
 ghost use Rattle.player.specs.Served.{ScriptServed};
 
 use crate::printing::push_answer;
@@ -58,7 +58,8 @@ fn play_header(
     out: &mut Vec<u8>,
 ) -> Result<(), AllocError>
     requires { length (lines_ahead lines) ≤ 65536 }
-    ensures { OnOk result (out.new.items ≡ out.old.items ++ opened (opened_header header (opening header)) (lines_ahead lines.entry)) }
+    ensures { OnOk result (out.new.items ≡ out.old.items
+        ++ opened (λ h. by_kind h.kind h (lines_ahead lines.entry)) (accepted header (opening header))) }
 {
     match header.kind {
         Kind::Tide => play_kind::<Tide>(heap, header, lines, out),
@@ -74,7 +75,8 @@ fn play_kind<F: FigureKind>(
     out: &mut Vec<u8>,
 ) -> Result<(), AllocError>
     requires { length (lines_ahead lines) ≤ 65536 }
-    ensures { OnOk result (out.new.items ≡ out.old.items ++ headed F.FigureKind header (opening header) (lines_ahead lines.entry)) }
+    ensures { OnOk result (out.new.items ≡ out.old.items
+        ++ opened (λ h. call_answers F.FigureKind h (lines_ahead lines.entry)) (accepted header (opening header))) }
 {
     match draft::<F>(header) {
         Ok(draft) => {

@@ -1,10 +1,10 @@
 ghost use Rattle.std.specs.Prelude.{◌≡◌, IfOk};
+ghost use Rattle.std.specs.Result.{result_err};
 ghost use Rattle.model.specs.State.{fresh};
 ghost use Rattle.script.specs.Openings.{opening};
 ghost use Rattle.script.specs.Rules.{rule_said};
 ghost use Rattle.register.specs.Clusters.{cluster_state, cluster_rule};
 ghost use Rattle.register.specs.Service.{drafted};
-ghost use Rattle.player.specs.Playing.{whether};
 
 use figure::FigureKind;
 use quorum::RuleRefusal;
@@ -19,7 +19,7 @@ const JOURNAL_ROOM: usize = 256;
 
 /// The draft of a register that a header says, or why there is none.
 pub fn draft<F: FigureKind>(header: Header) -> Result<Draft<ScriptRule, F>, RuleRefusal>
-    ensures declines { whether result ≡ opening header }
+    ensures declines { result_err result ≡ opening header }
     ensures makes { IfOk result (λ d. (drafted d ≡ rule_said header.rule) × (d.readers ≡ header.readers) × (d.start ≡ F.FigureKind.starting)) }
 {
     let rule = make_rule(header.rule)?;

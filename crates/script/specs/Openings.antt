@@ -1,45 +1,36 @@
 -- What the first line of a script answers once it is read: its rule is made, those below it first, then the draft.
 use Rattle.std.specs.Prelude.{ℕ, ◌&&◌, List, Some, None, Ok, Err, Option, Result, nat_le}
+use Rattle.std.specs.Option.{option_or}
+use Rattle.std.specs.Result.{result_map_both}
 use Rattle.quorum.specs.Refusals.{limited, count_refusal, lead_refusal, product_refusal}
 use Rattle.quorum.specs.declared.refusal.RuleRefusal.{RuleRefusal}
+use Rattle.text.specs.Partial.{ok_then}
 use Rattle.script.specs.declared.fault.ScriptFault.{ScriptFault}
-use Rattle.script.specs.declared.fault.TextFault.{TextFault}
 use Rattle.script.specs.declared.header.Header.{Header}
 use Rattle.script.specs.declared.header.RuleText.{RuleText}
 use Rattle.script.specs.Headers.{header_of}
 
--- The first refusal, or what comes next.
-abbrev pub unless : Option RuleRefusal → Result (Unit {0}) RuleRefusal → Result (Unit {0}) RuleRefusal
-unless (Some e) next = Err e
-unless None next = next
-
-abbrev pub rule_answer : RuleText → Result (Unit {0}) RuleRefusal
-rule_answer (RuleText.Count s f) = unless (count_refusal s f) (Ok tt)
-rule_answer (RuleText.Grid r c) = unless (product_refusal r c) (Ok tt)
-rule_answer (RuleText.Lead k s f) = unless (count_refusal s f) (unless (lead_refusal s k) (Ok tt))
-rule_answer (RuleText.Groups g f n e) =
-    unless (count_refusal g f) (unless (count_refusal n e) (unless (product_refusal g n) (Ok tt)))
+-- The first refusal that the makings of a rule meet.
+abbrev pub rule_refusal : RuleText → Option RuleRefusal
+rule_refusal (RuleText.Count s f) = count_refusal s f
+rule_refusal (RuleText.Grid r c) = product_refusal r c
+rule_refusal (RuleText.Lead k s f) = option_or (count_refusal s f) (lead_refusal s k)
+rule_refusal (RuleText.Groups g f n e) =
+    option_or (count_refusal g f) (option_or (count_refusal n e) (product_refusal g n))
 
 -- A draft has 1 to 32 readers.
 abbrev pub draft_refusal : ℕ → Option RuleRefusal
 draft_refusal readers = limited (nat_le 1 readers && nat_le readers 32) None
 
-abbrev pub drafted : Header → Result (Unit {0}) RuleRefusal → Result (Unit {0}) RuleRefusal
-drafted h (Ok u) = unless (draft_refusal h.readers) (Ok tt)
-drafted h (Err e) = Err e
+-- The first refusal: of the rule, or else of the draft.
+abbrev pub opening : Header → Option RuleRefusal
+opening h = option_or (rule_refusal h.rule) (draft_refusal h.readers)
 
-abbrev pub opening : Header → Result (Unit {0}) RuleRefusal
-opening h = drafted h (rule_answer h.rule)
+-- A header, unless it is refused.
+abbrev pub accepted : Header → Option RuleRefusal → Result Header ScriptFault
+accepted h None = Ok h
+accepted h (Some e) = Err (ScriptFault.Rule e)
 
--- What the first line comes to.
-
-abbrev pub opened : Header → Result (Unit {0}) RuleRefusal → Result Header ScriptFault
-opened h (Ok u) = Ok h
-opened h (Err e) = Err (ScriptFault.Rule e)
-
-abbrev pub opened_by : Result Header TextFault → Result Header ScriptFault
-opened_by (Ok h) = opened h (opening h)
-opened_by (Err e) = Err (ScriptFault.Text e)
-
+-- What the first line comes to: its header, or the first fault.
 abbrev pub opening_of : List ℕ → Result Header ScriptFault
-opening_of line = opened_by (header_of line)
+opening_of line = ok_then (result_map_both (λ h. h) ScriptFault.Text (header_of line)) (λ h. accepted h (opening h))

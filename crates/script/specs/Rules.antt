@@ -1,9 +1,7 @@
 -- The rules that a script can name.
-use Rattle.std.specs.Prelude.{Ok, Err, Result}
 use Rattle.quorum.specs.Sets.{Rule}
 use Rattle.quorum.specs.Families.{count_rule, grid_rule, lead_rule, grouped_rule}
 use Rattle.quorum.specs.declared.by_count.Count.{Count}
-use Rattle.quorum.specs.declared.refusal.RuleRefusal.{RuleRefusal}
 use Rattle.script.specs.declared.header.RuleText.{RuleText}
 use Rattle.script.specs.declared.rule.ScriptRule.{ScriptRule}
 
@@ -23,8 +21,3 @@ meaning_of (ScriptRule.Count c) = count_of c
 meaning_of (ScriptRule.Grid g) = grid_rule g.rows g.columns
 meaning_of (ScriptRule.Lead l) = lead_rule (count_of l.below) l.lead
 meaning_of (ScriptRule.Groups g) = grouped_rule g.groups g.places (count_of g.outer) (count_of g.inner)
-
--- Whether a making answered a rule or a refusal, and which.
-abbrev pub made_rule : Result ScriptRule RuleRefusal → Result (Unit {0}) RuleRefusal
-made_rule (Ok r) = Ok tt
-made_rule (Err e) = Err e

@@ -10,7 +10,6 @@ mod examples;
 mod fault;
 mod header;
 mod making;
-mod opening;
 mod rule;
 mod words;
 
@@ -19,5 +18,4 @@ pub use calls::read_call;
 pub use fault::{ScriptFault, TextFault};
 pub use header::{Header, Kind, RuleText, read_header};
 pub use making::make_rule;
-pub use opening::{open_header, open_line};
 pub use rule::ScriptRule;

@@ -1,7 +1,8 @@
 ghost use Rattle.std.specs.Prelude.{◌≡◌, IfOk};
+ghost use Rattle.std.specs.Result.{result_err};
 ghost use Rattle.quorum.specs.Laws.{Lawful};
-ghost use Rattle.script.specs.Openings.{rule_answer};
-ghost use Rattle.script.specs.Rules.{meaning_of, rule_said, made_rule};
+ghost use Rattle.script.specs.Openings.{rule_refusal};
+ghost use Rattle.script.specs.Rules.{meaning_of, rule_said};
 
 use crate::header::RuleText;
 use crate::rule::ScriptRule;
@@ -9,7 +10,7 @@ use quorum::{Count, Grid, Groups, Lead, RuleRefusal};
 
 /// Makes the rule that a first line says, those below it first. It is lawful.
 pub fn make_rule(text: RuleText) -> Result<ScriptRule, RuleRefusal>
-    ensures declines { made_rule result ≡ rule_answer text }
+    ensures declines { result_err result ≡ rule_refusal text }
     ensures makes { IfOk result (λ rule. (meaning_of rule ≡ rule_said text) × Lawful (rule_said text)) }
 {
     match text {
