@@ -18,7 +18,7 @@ rule_refusal (RuleText.Lead k s f) = option_or (count_refusal s f) (lead_refusal
 rule_refusal (RuleText.Groups g f n e) =
     option_or (count_refusal g f) (option_or (count_refusal n e) (product_refusal g n))
 
--- A draft has 1 to 32 readers.
+-- A draft has 1 to 32 readers. The register tests its rule's size too, which no rule that is made fails (`draft` of player).
 abbrev pub draft_refusal : ℕ → Option RuleRefusal
 draft_refusal readers = limited (nat_le 1 readers && nat_le readers 32) None
 
