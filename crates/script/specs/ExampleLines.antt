@@ -143,11 +143,15 @@ first_lines =
 abbrev pub answered : ℕ → LineAnswer Tide → List ℕ
 answered n answer = line_shown tide_shown n answer
 
--- The lines that answer replies, and the one that answers too long a script.
+-- The lines that answer calls, then the answers that are in no script, and the one to a script that is too long.
 abbrev pub answer_lines : List (List ℕ × List ℕ)
 answer_lines =
     (answered 2 (answer_of (Ok (Reply.Started 1))), codes "2\tok\t1\n") ∷ (
     (answered 3 (answer_of (Ok Reply.Done)), codes "3\tok\t0\n") ∷ (
     (answered 12 (answer_of (Ok (Reply.Finished 2 0 tide_start 10 4))), codes "12\tdone\t2\t0\t0\t0\t10\t4\n") ∷ (
     (answered 13 (answer_of (Err Refusal.Busy)), codes "13\tno\tplant\t7\t0\n") ∷ (
-    (answered 0 (Err (ScriptFault.Text TextFault.NotText)), codes "0\tno\ttext\t12\t0\n") ∷ []))))
+    (answered 14 (answer_of (Err Refusal.TableLength)), codes "14\tno\tplant\t3\t0\n") ∷ (
+    (answered 15 (answer_of (Err Refusal.Unsound)), codes "15\tno\tplant\t4\t0\n") ∷ (
+    (answered 16 (answer_of (Err Refusal.StampAhead)), codes "16\tno\tplant\t11\t0\n") ∷ (
+    (answered 17 (Err ScriptFault.Print), codes "17\tno\tprint\t16\t0\n") ∷ (
+    (answered 0 (Err (ScriptFault.Text TextFault.NotText)), codes "0\tno\ttext\t12\t0\n") ∷ []))))))))
