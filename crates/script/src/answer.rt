@@ -1,4 +1,4 @@
-ghost use Rattle.std.specs.Prelude.{◌≡◌, ◌+◌, ◌≤◌, length, IfOk};
+ghost use Rattle.std.specs.Prelude.{◌+◌, ◌≤◌, length, IfOk};
 ghost use Rattle.text.specs.Printing.{Printed};
 ghost use Rattle.script.specs.Faults.{report};
 ghost use Rattle.script.specs.Answers.{tabbed, accepted_shown, finished_shown, declined_shown};

@@ -43,7 +43,3 @@ lines_few (c ∷ cs) =
     let ih = lines_few cs in
     let o = onto_few c (lines cs) in
     elim (eqb c 10) as (λ t. length (cond t ([] ∷ lines cs) (onto_first c (lines cs))) ≤ suc (length cs)) [ true ↦ omega arith | false ↦ omega arith ]
-
-pub no_lines : (l : List ℕ) → length l ≡ 0 → lines l ≡ []
-no_lines [] h = refl
-no_lines (c ∷ cs) h = absurd (omega arith)
