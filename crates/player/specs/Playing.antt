@@ -45,9 +45,11 @@ answers kind rule s n (l ∷ ls) =
 abbrev pub set_up : {F : Type 0} → Ghosts F → Header → State F
 set_up kind h = fresh (rule_said h.rule) kind.starting h.readers 1024 256
 
+-- The answers to the lines behind it.
 abbrev pub call_answers : {F : Type 0} → Ghosts F → Header → List (List ℕ) → List ℕ
 call_answers kind h ls = answers kind (rule_said h.rule) (set_up kind h) 2 ls
 
+-- The same, by the kind of figure that it names.
 abbrev pub by_kind : Kind → Header → List (List ℕ) → List ℕ
 by_kind Kind.Tide h ls = call_answers tide_kind h ls
 by_kind Kind.Order h ls = call_answers order_kind h ls
@@ -61,6 +63,7 @@ abbrev pub opened : (Header → List ℕ) → Result Header ScriptFault → List
 opened rest (Ok h) = plain_line 1 (Ok Reply.Done) ++ rest h
 opened rest (Err e) = plain_line 1 (Err e)
 
+-- The answers to all lines.
 abbrev pub script_answers : List (List ℕ) → List ℕ
 script_answers [] = []
 script_answers (first ∷ ls) = opened (λ h. by_kind h.kind h ls) (opening_of first)

@@ -1,5 +1,6 @@
 -- The lines that answer a script.
 use Rattle.std.specs.Prelude.{◌≡◌, ℕ, cond, List, [], ◌∷◌, ◌++◌, length, Ok, Err, codes, decimal, Result, nat_lt}
+use Rattle.std.specs.Result.{result_map_both}
 use Rattle.model.specs.declared.answers.Reply.{Reply}
 use Rattle.model.specs.Answers.{Answer}
 use Rattle.text.specs.Printing.{put}
@@ -12,8 +13,7 @@ LineAnswer F = Result (Reply F) ScriptFault
 
 -- What the answer to a call is as the answer to its line: the cause of a refusal is kept whole.
 abbrev pub answer_of : {F : Type 0} → Answer F → LineAnswer F
-answer_of (Ok r) = Ok r
-answer_of (Err e) = Err (ScriptFault.Plant e)
+answer_of a = result_map_both (λ r. r) ScriptFault.Plant a
 
 -- A tab and a number.
 abbrev pub tabbed : ℕ → List ℕ

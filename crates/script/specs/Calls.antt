@@ -1,5 +1,7 @@
 -- The call lines of a script.
 use Rattle.std.specs.Prelude.{ℕ, cond, List, [], ◌∷◌, length, drop, Some, None, Ok, Err, codes, Option, Result, ◌==◌, nat_eq}
+use Rattle.std.specs.Option.{ok_or}
+use Rattle.std.specs.Result.{result_map_both}
 use Rattle.std.specs.Str.{bytes_eq}
 use Rattle.figure.specs.declared.fault.FigureFault.{FigureFault}
 use Rattle.figure.specs.declared.kind.FigureKind.{Ghosts}
@@ -14,8 +16,7 @@ use Rattle.script.specs.Words.{number_in}
 
 -- A figure's fault is one of the text, with its cause whole.
 abbrev pub of_figure : {A : Type 0} → Result A FigureFault → Result A TextFault
-of_figure (Ok a) = Ok a
-of_figure (Err e) = Err (TextFault.Figure e)
+of_figure r = result_map_both (λ a. a) TextFault.Figure r
 
 -- The figure that all the fields say: the words that fix their number come first, then that number, then the rest.
 abbrev pub figure_in : {F : Type 0} → Ghosts F → List (List ℕ) → Result F TextFault
@@ -30,14 +31,12 @@ read_kind w =
     (cond (bytes_eq w (codes "settled")) (Some ReadKind.Settled)
     (cond (bytes_eq w (codes "relay")) (Some ReadKind.Relay) None))
 
-abbrev pub read_by : {F : Type 0} → ℕ → Option ReadKind → Result (Call F) TextFault
-read_by reader None = Err (TextFault.UnknownWord 2)
-read_by reader (Some kind) = Ok (Call.Read reader kind)
-
 -- A reader and how it reads.
 abbrev pub read_in : {F : Type 0} → List (List ℕ) → Result (Call F) TextFault
 read_in fs =
-    cond (length fs == 2) (ok_then (number_in (field_at fs 0) 1) (λ n. read_by n (read_kind (field_at fs 1))))
+    cond (length fs == 2)
+    (ok_then (number_in (field_at fs 0) 1) (λ n.
+    ok_then (ok_or (read_kind (field_at fs 1)) (TextFault.UnknownWord 2)) (λ kind. Ok (Call.Read n kind))))
     (Err TextFault.FieldCount)
 
 -- The number in the one field that is left, which stands in this field of the line.

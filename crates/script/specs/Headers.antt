@@ -1,5 +1,6 @@
 -- The first line of a script.
 use Rattle.std.specs.Prelude.{ℕ, ◌+◌, cond, List, length, drop, Some, None, Ok, Err, codes, Option, Result, ◌==◌, nat_lt}
+use Rattle.std.specs.Option.{ok_or}
 use Rattle.std.specs.Str.{bytes_eq}
 use Rattle.text.specs.Fields.{fields, field_at}
 use Rattle.text.specs.Partial.{ok_then}
@@ -47,19 +48,16 @@ rule_text k fs =
     ok_then (number_in (field_at fs 0) 4) (λ a.
     ok_then (number_in (field_at fs 1) 5) (λ b. rule_rest k a b (drop 2 fs)))
 
-abbrev pub header_kind : List ℕ → RuleWord → List (List ℕ) → Option Kind → Result Header TextFault
-header_kind readers k fs None = Err (TextFault.UnknownWord 1)
-header_kind readers k fs (Some kind) =
-    ok_then (number_in readers 2) (λ n.
-    ok_then (rule_text k fs) (λ rule. Ok (record { kind = kind; readers = n; rule = rule })))
-
 -- The kind, the readers and the numbers of the rule, from the left.
 unfoldable pub header_rest : (kind readers : List ℕ) → RuleWord → List (List ℕ) → Result Header TextFault
-header_rest kind readers k fs = header_kind readers k fs (kind_word kind)
+header_rest kind readers k fs =
+    ok_then (ok_or (kind_word kind) (TextFault.UnknownWord 1)) (λ figures.
+    ok_then (number_in readers 2) (λ n.
+    ok_then (rule_text k fs) (λ rule. Ok (record { kind = figures; readers = n; rule = rule }))))
 
-abbrev pub header_ruled : List (List ℕ) → Option RuleWord → Result Header TextFault
-header_ruled fs None = Err (TextFault.UnknownWord 3)
-header_ruled fs (Some k) =
+-- What the fields of a line say whose rule has this word: their number first.
+abbrev pub header_counted : List (List ℕ) → RuleWord → Result Header TextFault
+header_counted fs k =
     cond (length fs == 4 + rule_numbers k) (header_rest (field_at fs 1) (field_at fs 2) k (drop 4 fs))
     (Err TextFault.FieldCount)
 
@@ -67,7 +65,8 @@ header_ruled fs (Some k) =
 abbrev pub header_by : List (List ℕ) → Result Header TextFault
 header_by fs =
     cond (bytes_eq (field_at fs 0) (codes "plant"))
-    (cond (nat_lt (length fs) 4) (Err TextFault.FieldCount) (header_ruled fs (rule_word (field_at fs 3))))
+    (cond (nat_lt (length fs) 4) (Err TextFault.FieldCount)
+    (ok_then (ok_or (rule_word (field_at fs 3)) (TextFault.UnknownWord 3)) (header_counted fs)))
     (Err (TextFault.UnknownWord 0))
 
 -- What the first line of a script says.
