@@ -2,7 +2,7 @@ ghost use Rattle.std.specs.Prelude.{◌≡◌, ◌≤◌, ◌++◌, length, IfOk
 ghost use Rattle.text.specs.LineCursors.{lines_ahead};
 ghost use Rattle.script.specs.Openings.{opening, accepted};
 ghost use Rattle.register.specs.Clusters.{cluster_state, cluster_rule};
-ghost use Rattle.player.specs.Playing.{answers, call_answers, by_kind, opened, played};
+ghost use Rattle.player.specs.Playing.{answers, call_answers, opened, played};
 ghost use Rattle.player.specs.Served.{ScriptServed};
 
 use crate::printing::push_answer;
@@ -43,31 +43,17 @@ fn play_script(heap: Global, script: &[u8]) -> Result<Vec<u8>, AllocError>
         return Ok(out);
     };
     match read_header(first) {
-        Ok(header) => play_header(heap, header, lines, &mut out)?,
+        Ok(header) => match header.kind {
+            Kind::Tide => play_kind::<Tide>(heap, header, lines, &mut out)?,
+            Kind::Order => play_kind::<DigOrder>(heap, header, lines, &mut out)?,
+        },
         Err(fault) => push_answer::<Tide>(&mut out, 1, Err(fault.into()))?,
     }
     Ok(out)
 }
 
-// Plays a script with this header, by the kind of figure. That its lines are few is asked here and below, since a cursor is
-// over any text.
-fn play_header(
-    heap: Global,
-    header: Header,
-    lines: LineCursor<'_>,
-    out: &mut Vec<u8>,
-) -> Result<(), AllocError>
-    requires { length (lines_ahead lines) ≤ 65536 }
-    ensures { OnOk result (out.new.items ≡ out.old.items
-        ++ opened (λ h. by_kind h.kind h (lines_ahead lines.entry)) (accepted header (opening header))) }
-{
-    match header.kind {
-        Kind::Tide => play_kind::<Tide>(heap, header, lines, out),
-        Kind::Order => play_kind::<DigOrder>(heap, header, lines, out),
-    }
-}
-
-// Answers the first line, and plays the call lines if the register can be drafted.
+// Answers a first line with this header, and plays the call lines if the register can be drafted. That these are few is asked here
+// and below, since a cursor is over any text.
 fn play_kind<F: FigureKind>(
     heap: Global,
     header: Header,
