@@ -28,7 +28,7 @@ module _ {F : Type 0} where
     past : (n : ℕ) → length s.journal < n → sent_for n h ≡ 0
     counts : (n : ℕ) → 1 ≤ n → n ≤ length s.journal → (line s n).sent ≡ min (sent_for n h) 65535
     -- an operation that started has a line of the kind that its call says
-    known : (m n : ℕ) (p : Party) (k : OperationKind) → Starts h m n p k
+    pub known : (m n : ℕ) (p : Party) (k : OperationKind) → Starts h m n p k
         → (1 ≤ n) × (n ≤ length s.journal) × ((line s n).kind ≡ k)
     -- what was sent for an operation, and what may still be sent, is within its limit
     within : (n : ℕ) → 1 ≤ n → n ≤ length s.journal → Uncopied h n

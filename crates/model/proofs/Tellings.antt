@@ -1,5 +1,5 @@
 -- What a history tells of its operations is what is known of them.
-use Rattle.std.proofs.Common.{◌≡◌, ℕ, ◌<◌, ◌≤◌, Bool, true, false, List, Some, None, Option, sym, refl, ap, ◌∙◌, subst, inl, inr, arith, Ok, Err}
+use Rattle.std.proofs.Common.{◌≡◌, ℕ, ◌<◌, ◌≤◌, Bool, true, false, List, length, Some, None, Option, sym, refl, ap, ◌∙◌, subst, inl, inr, arith, Ok, Err}
 use Rattle.std.proofs.lemmas.Bool.{cases_eq, both_ways}
 use Rattle.quorum.specs.Sets.{Rule}
 use Rattle.quorum.specs.Laws.{Lawful}
@@ -10,7 +10,7 @@ use Rattle.model.specs.declared.messages.Message.{Message}
 use Rattle.model.specs.declared.calls.Call.{Call}
 use Rattle.model.specs.declared.answers.Reply.{Reply}
 use Rattle.model.specs.Stamps.{rank}
-use Rattle.model.specs.State.{State, Held}
+use Rattle.model.specs.State.{State, Held, line}
 use Rattle.model.specs.Sound.{is_read}
 use Rattle.model.specs.History.{Event, History}
 use Rattle.model.specs.Claims.{At, asked, Starts, Finishes, Put, Writes, Shows, Numbered}
@@ -162,11 +162,14 @@ module _ {F : Type 0} (q : Rule) (R : ℕ) (law : Lawful q) (start : F) (w : Wor
             (sym (ap is_start f.6) ∙ ap (λ (v : Event F). is_start v.reply) e ∙ ap is_start b.2))
       ]
 
-  pub numbered : Numbered h s
-  numbered = record {
-    in_journal = λ m n p k st.
-        let b = (starts_at m n p k st).stage_is in
-        ((g.core.op n).named b, omega (arith, (g.core.op n).counted b, g.count_is));
+  pub numbered : ((m n : ℕ) (p : Party) (k : OperationKind) → Starts h m n p k
+      → (1 ≤ n) × (n ≤ length s.journal) × ((line s n).kind ≡ k))
+      → Numbered h s
+  numbered known = record {
+    in_journal = λ m n p k st. let a = known m n p k st in (a.0, a.1);
+    its_line = λ m n p k st.
+        let b = starts_at m n p k st in
+        ((known m n p k st).2, (g.lines n).owner_is b.stage_is ∙ b.owner_is);
     given_once = λ l m n p r j k a b. sym (starts_at l n p j a).begun_is ∙ (starts_at m n r k b).begun_is;
     finished_once = λ l m n x y a b.
         let c = ends_at l n x a in

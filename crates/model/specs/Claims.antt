@@ -1,5 +1,6 @@
 -- What a register promises of every history: its operations stand in one row, those that nothing holds up finish, and
--- their messages are few. It goes by the calls and their answers, and by which messages were sent, dropped and copied.
+-- their messages are few. It goes by the events of the history (the calls, their answers, and which messages were sent,
+-- dropped and copied) and by the state after them (the lines of the journal, who is halted and what waits).
 use Rattle.std.specs.Prelude.{◌≡◌, ℕ, ◌+◌, ◌*◌, ◌<◌, ◌≤◌, min, true, false, cond, not, ◌&&◌, ◌⊎◌, List, [], ◌∷◌, length, Some, None, Option, ◌==◌, ◌≢◌, nat_lt, Ok, Err}
 use Rattle.quorum.specs.Sets.{Rule, Members}
 use Rattle.quorum.specs.Laws.{Lawful}
@@ -71,6 +72,8 @@ module _ {F : Type 0} (h : History F) where
   -- The numbers tell operations apart: each is given once, has its line, and finishes at most once, after its start.
   pub record Numbered (s : State F) : Type 0 where
     pub in_journal : (m n : ℕ) (p : Party) (k : OperationKind) → Starts m n p k → (1 ≤ n) × (n ≤ length s.journal)
+    pub its_line : (m n : ℕ) (p : Party) (k : OperationKind) → Starts m n p k
+        → ((line s n).kind ≡ k) × ((line s n).owner ≡ p)
     pub given_once : (l m n : ℕ) (p q : Party) (j k : OperationKind) → Starts l n p j → Starts m n q k → l ≡ m
     pub finished_once : (l m n : ℕ) (x y : Held F) → Finishes l n x → Finishes m n y → (l ≡ m) × (x ≡ y)
     pub started_first : (m n : ℕ) (x : Held F) → Finishes m n x
