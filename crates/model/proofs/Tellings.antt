@@ -1,5 +1,5 @@
 -- What a history tells of its operations is what is known of them.
-use Rattle.std.proofs.Common.{◌≡◌, ℕ, ◌<◌, ◌≤◌, Bool, true, false, List, length, Some, None, Option, sym, refl, ap, ◌∙◌, subst, inl, inr, arith, Ok, Err}
+use Rattle.std.proofs.Common.{◌≡◌, ℕ, ◌<◌, ◌≤◌, Bool, true, false, List, length, Some, None, Option, sym, refl, ap, ap₂, ◌∙◌, subst, inl, inr, arith, Ok, Err}
 use Rattle.std.proofs.lemmas.Bool.{cases_eq, both_ways}
 use Rattle.quorum.specs.Sets.{Rule}
 use Rattle.quorum.specs.Laws.{Lawful}
@@ -13,7 +13,7 @@ use Rattle.model.specs.Stamps.{rank}
 use Rattle.model.specs.State.{State, Held, line}
 use Rattle.model.specs.Sound.{is_read}
 use Rattle.model.specs.History.{Event, History}
-use Rattle.model.specs.Claims.{At, asked, Starts, Finishes, Put, Writes, Shows, Numbered}
+use Rattle.model.specs.Claims.{At, asked, Starts, Finishes, Put, Writes, Shows, Numbered, AsWritten}
 use Rattle.model.proofs.Lists.{all_in, at_same}
 use Rattle.model.proofs.World.{Op, World}
 use Rattle.model.proofs.Good.{Says, Ends, Opens, Begins, Answers, shown, Good}
@@ -143,6 +143,15 @@ module _ {F : Type 0} (q : Rule) (R : ℕ) (law : Lawful q) (start : F) (w : Wor
       let o = subst (λ c. Opens w n c v.1.sent) v.3 b.opens in
       let p = v.5.0 in
       (b.stage_is, o.writes, ap rank (sym (v.5.1 p.0 p.1)) ∙ (puts_aim n p.0 p.1).0)
+
+  pub as_written : AsWritten h
+  as_written m n x y v f =
+      let b = begins_at v.0 v.1 n v.2 v.4 in
+      let o = subst (λ c. Opens w n c v.1.sent) v.3 b.opens in
+      let p = v.5.0 in
+      let stamp : (shown w n).stamp ≡ x.stamp = sym (puts_aim n p.0 p.1).1 ∙ v.5.1 p.0 p.1 in
+      sym (ends_at m n y f).value_is
+      ∙ ap₂ (λ t z. record { stamp = t; figure = z }) stamp o.figure_is
 
   pub read_is : (n : ℕ) (x : Held F) → Shows h n x → (op n).reading ≡ true
   read_is n x v = let b = v.0 in (starts_at b.0 n b.1 (OperationKind.Read b.2) b.3).reading_is

@@ -79,6 +79,10 @@ module _ {F : Type 0} (h : History F) where
     pub started_first : (m n : ℕ) (x : Held F) → Finishes m n x
         → (l : ℕ) × (p : Party) × (k : OperationKind) × Starts l n p k × (l < m)
 
+  -- A write finishes with the stamp and the figure that it wrote.
+  abbrev pub AsWritten : Type 0
+  AsWritten = (m n : ℕ) (x y : Held F) → Writes n x → Finishes m n y → y ≡ x
+
 -- THE ROW
 
 module _ {F : Type 0} (h : History F) where
@@ -167,6 +171,7 @@ Undisturbed {F} h =
 
 pub record Served {F : Type 0} (rule : Rule) (start : F) (h : History F) (s : State F) : Type 0 where
   pub numbered : Numbered h s
+  pub as_written : AsWritten h
   pub row : Row start h
   pub finishing : Finishing rule h s
   pub limits : Limits rule h s
