@@ -1,22 +1,67 @@
 -- The claims exclude what they should.
-use Rattle.std.proofs.Common.{◌≡◌, ℕ, zero, suc, ◌+◌, ◌*◌, ◌<◌, true, not, ◌⊎◌, refl, ap, inl, inr, arith, Ok}
+use Rattle.std.proofs.Common.{◌≡◌, ℕ, zero, suc, ◌+◌, ◌*◌, ◌<◌, ◌≤◌, true, not, ◌⊎◌, [], ◌∷◌, refl, ap, ◌∙◌, inl, inr, arith, Ok}
 use Rattle.std.specs.List.{AllByRecursion as All}
 use Rattle.std.proofs.lemmas.List.{get_or-replicate}
 use Rattle.std.proofs.lemmas.Bool.{and_from, lt-ltb}
 use Rattle.quorum.specs.Sets.{Rule}
 use Rattle.quorum.specs.Laws.{Lawful}
 use Rattle.model.specs.declared.replica.Replica.{Replica}
+use Rattle.model.specs.declared.parties.Party.{Party}
+use Rattle.model.specs.declared.journal.OperationKind.{OperationKind}
+use Rattle.model.specs.declared.journal.ReadKind.{ReadKind}
 use Rattle.model.specs.declared.calls.Call.{Call}
 use Rattle.model.specs.declared.answers.Reply.{Reply}
 use Rattle.model.specs.Stamps.{Stamp, rank, no_stamp}
-use Rattle.model.specs.State.{Held, new_replica, fresh, unused}
+use Rattle.model.specs.State.{State, Held, new_replica, fresh, unused}
 use Rattle.model.specs.History.{Event, History}
-use Rattle.model.specs.Claims.{At, Finishes, Writes, Row, working, Finishing, of_operation, sent_for, Limits}
-use Rattle.model.specs.Refuted.{first, second, read_after_write, stalled, overspent, after_write, Refutable}
+use Rattle.model.specs.Claims.{At, Finishes, Writes, Numbered, AsWritten, Row, working, Finishing, Uncopied, of_operation, sent_for, limit, Limits}
+use Rattle.model.specs.Refuted.{value, write_starts, finishes, first, second, number_given_twice, read_ends_twice, write_ends}
+use Rattle.model.specs.Refuted.{read_after_write, stalled, overspent, after_start, after_write, ReadWithin, Refutable}
 use Rattle.model.proofs.Ranks.{rank_next}
-use Rattle.model.proofs.Slate.{shows_after, Tells, write_tells, read_tells, finish_tells, written, ended, finish_at}
-use Rattle.model.proofs.Slate.{write_at, read_at}
+use Rattle.model.proofs.Slate.{shows_after, Tells, write_tells, read_tells, finish_tells, written, writes_from, ended}
+use Rattle.model.proofs.Slate.{finish_at, write_at, read_at}
 use Rattle.model.proofs.FallenBack.{only_newest}
+
+-- NUMBERS
+
+not_renumbered : (s : State ℕ) → Numbered number_given_twice s → ⊥
+not_renumbered s n =
+    omega (arith, n.given_once 0 2 1 _ _ _ _ (read_at number_given_twice 1 0 0 refl) (read_at number_given_twice 1 2 0 refl))
+
+not_repeated : (s : State ℕ) → Numbered read_ends_twice s → ⊥
+not_repeated s n =
+    omega (arith, (n.finished_once 1 2 1 _ _ (finish_at read_ends_twice 1 1 no_stamp 0 refl) (finish_at read_ends_twice 1 2 no_stamp 0 refl)).0)
+
+not_unstarted : (s : State ℕ) → Numbered (finishes 1 no_stamp 0 ∷ []) s → ⊥
+not_unstarted s n =
+    let (l, p, k, st, before) = n.started_first 0 1 _ (finish_at (finishes 1 no_stamp 0 ∷ []) 1 0 no_stamp 0 refl) in
+    omega arith
+
+not_mislabelled : (rule : Rule) (kind : OperationKind) (owner : Party)
+    → Numbered (write_starts 1 10 [] ∷ []) (after_start rule kind owner (value first 10) 0)
+    → (kind ≡ OperationKind.Write) × (owner ≡ Party.Writer)
+not_mislabelled rule kind owner n = n.its_line 0 1 _ _ (write_at (write_starts 1 10 [] ∷ []) 1 0 10 [] refl)
+
+-- WHAT A WRITE WROTE
+
+module _ (t : Stamp) (f : ℕ) where
+  abbrev Asked : ℕ → ℕ → Type 0
+  Asked n g = Unit {0}
+
+  abbrev Stamped : ℕ → Stamp → Type 0
+  Stamped n u = u ≡ first
+
+  abbrev Told : ℕ → Stamp → ℕ → Type 0
+  Told n u g = Unit {0}
+
+  only_written_finishes : AsWritten (write_ends t f) → (t ≡ first) × (f ≡ 10)
+  only_written_finishes a =
+      let all : All (Tells Asked Stamped Told) (write_ends t f) =
+      (write_tells Asked Stamped Told 1 first 10 tt refl, (finish_tells Asked Stamped Told 1 t f tt, tt)) in
+      let e = a 1 1 (value first 10) (value t f)
+      (writes_from Asked Stamped Told (write_ends t f) all 1 first 10 0 (λ u i. i) refl)
+      (finish_at (write_ends t f) 1 1 t f refl) in
+      (ap (λ (x : Held ℕ). x.stamp) e, ap (λ (x : Held ℕ). x.figure) e)
 
 -- A READ AFTER A WRITE
 
@@ -96,16 +141,24 @@ not_stalled rule law finishing =
 
 -- COUNTS
 
-none_copied : (rule : Rule) (m place : ℕ) (e : Event ℕ) → At (overspent rule) m e → e.call ≡ Call.Duplicate place → ⊥
-none_copied rule zero place e at call = let z : ◌≡◌ {A = ℕ} 0 1 = cc in omega arith
-none_copied rule (suc m) place e at call = absurd at
+-- The one call of a history copies nothing.
+one_call : (e : Event ℕ) → ((place : ℕ) → e.call ≡ Call.Duplicate place → ⊥) → (n : ℕ) → Uncopied (e ∷ []) n
+one_call e other n zero place d a at call taken = absurd (other place (ap (λ (x : Event ℕ). x.call) at ∙ call))
+one_call e other n (suc m) place d a at call taken = absurd at
 
 not_overspent : (rule : Rule) → Limits rule (overspent rule) (after_write rule (2 * rule.size + 1)) → ⊥
 unfolding fresh
 not_overspent rule limits =
     let most = limits.bounded 0 1 _ _ (write_at (overspent rule) 1 0 10 _ refl)
-    (λ m place e a at call. absurd (none_copied rule m place e at call)) in
+    (one_call _ (λ place c. cc) 1) in
     omega arith
+
+read_within : (rule : Rule) (kind : ReadKind) (sent : ℕ) → ReadWithin rule kind sent
+    → sent ≤ limit rule.size (OperationKind.Read kind)
+unfolding fresh
+read_within rule kind sent limits =
+    limits.bounded 0 1 (Party.Reader 0) (OperationKind.Read kind) (_, refl, refl, refl)
+    (one_call _ (λ place c. cc) 1)
 
 not_miscounted : (rule : Rule) → Limits rule stalled (after_write rule 2) → ⊥
 unfolding fresh of_operation sent_for
@@ -117,11 +170,20 @@ rises t u l e = omega (arith, ap rank e)
 
 pub refutable : Refutable
 refutable = record {
+  renumbers = not_renumbered;
+  repeats = not_repeated;
+  unstarted = not_unstarted;
+  mislabels = not_mislabelled;
+  miswrites = only_written_finishes;
   falls_back = λ r. rises first second (rank_next first) (only_newest first 10 r).0;
   shows_newest = only_newest;
   forgets = λ r. rises no_stamp first (rank_next no_stamp) (only_written no_stamp 0 r).0;
   shows_written = only_written;
   stalls = not_stalled;
   overspends = not_overspent;
+  quick_overspends = λ rule l. omega (arith, read_within rule ReadKind.Quick _ l);
+  relay_overspends = λ rule l. omega (arith, read_within rule ReadKind.Relay _ l);
   miscounts = not_miscounted;
+  finds_unsound = λ c u. (u 0 _ refl).0 refl;
+  finds_ahead = λ c u. (u 0 _ refl).1 refl;
 }

@@ -1,5 +1,5 @@
 -- Histories that no register may have. Each breaks a claim, so the claims exclude something.
-use Rattle.std.specs.Prelude.{◌≡◌, ℕ, ◌+◌, ◌*◌, List, [], ◌∷◌, replicate, Ok}
+use Rattle.std.specs.Prelude.{◌≡◌, ℕ, ◌+◌, ◌*◌, List, [], ◌∷◌, replicate, Ok, Err}
 use Rattle.quorum.specs.Sets.{Rule}
 use Rattle.quorum.specs.Laws.{Lawful}
 use Rattle.model.specs.declared.parties.Party.{Party}
@@ -9,10 +9,12 @@ use Rattle.model.specs.declared.journal.OperationKind.{OperationKind}
 use Rattle.model.specs.declared.journal.ReadKind.{ReadKind}
 use Rattle.model.specs.declared.calls.Call.{Call}
 use Rattle.model.specs.declared.answers.Reply.{Reply}
+use Rattle.model.specs.declared.answers.Refusal.{Refusal}
 use Rattle.model.specs.Stamps.{Stamp, no_stamp, next_stamp}
-use Rattle.model.specs.State.{State, Held, new_message, fresh, with_journal}
+use Rattle.model.specs.State.{State, Held, unused, new_message, fresh, with_journal}
+use Rattle.model.specs.Steps.{opening_message}
 use Rattle.model.specs.History.{Event, History}
-use Rattle.model.specs.Claims.{Row, Finishing, Limits}
+use Rattle.model.specs.Claims.{Numbered, AsWritten, Row, Finishing, Limits, Undisturbed}
 
 -- EVENTS. The figures are numbers, and the register starts with 0.
 
@@ -43,7 +45,23 @@ read_starts n r = record { call = Call.Read r ReadKind.Quick; reply = Ok (Reply.
 abbrev pub finishes : ℕ → Stamp → ℕ → Event ℕ
 finishes n t f = record { call = Call.Deliver 0; reply = Ok (Reply.Finished n t f 2 2); taken = []; sent = [] }
 
+-- A call is declined.
+abbrev pub declines : Call ℕ → Refusal → Event ℕ
+declines c e = record { call = c; reply = Err e; taken = []; sent = [] }
+
 -- HISTORIES
+
+-- Number 1 is given to a second read, once the first has finished.
+abbrev pub number_given_twice : History ℕ
+number_given_twice = read_starts 1 0 ∷ finishes 1 no_stamp 0 ∷ read_starts 1 0 ∷ []
+
+-- Read 1 finishes twice.
+abbrev pub read_ends_twice : History ℕ
+read_ends_twice = read_starts 1 0 ∷ finishes 1 no_stamp 0 ∷ finishes 1 no_stamp 0 ∷ []
+
+-- Write 1 of the figure 10 finishes with this.
+abbrev pub write_ends : Stamp → ℕ → History ℕ
+write_ends t f = write_starts 1 10 (put 1 first 10 ∷ []) ∷ finishes 1 t f ∷ []
 
 -- Write 1 finishes, write 2 starts and does not finish, and read 3 shows write 2. Then read 4 starts, and shows this.
 abbrev pub second_read : Stamp → ℕ → History ℕ
@@ -77,25 +95,56 @@ stalled =
 abbrev pub overspent : Rule → History ℕ
 overspent rule = write_starts 1 10 (replicate (2 * rule.size + 1) (put 1 first 10)) ∷ []
 
--- A register with a write in its journal, for which so many messages were sent. All its parties work, and none waits
--- for a message.
-abbrev pub after_write : Rule → ℕ → State ℕ
-after_write rule sent = with_journal (fresh rule 0 1 64 8) (
+-- A read of this kind, for which so many messages are sent.
+abbrev pub read_sends : ReadKind → ℕ → History ℕ
+read_sends kind sent =
     record {
-      kind = OperationKind.Write;
-      owner = Party.Writer;
+      call = Call.Read 0 kind;
+      reply = Ok (Reply.Started 1);
+      taken = [];
+      sent = replicate sent (new_message (opening_message kind) 1 (Party.Reader 0) (Party.Replica 0) (unused 0));
+    }
+    ∷ []
+
+-- A register with one operation in its journal, which started with x and for which so many messages were sent. All its
+-- parties work, and none waits for a message.
+abbrev pub after_start : Rule → OperationKind → Party → Held ℕ → ℕ → State ℕ
+after_start rule kind owner x sent = with_journal (fresh rule 0 1 64 8) (
+    record {
+      kind = kind;
+      owner = owner;
       started = 1;
       finished = 0;
       exchanges = 0;
-      stamp = first;
-      figure = 10;
+      stamp = x.stamp;
+      figure = x.figure;
       sent = sent;
     }
     ∷ []) 0
 
+abbrev pub after_write : Rule → ℕ → State ℕ
+after_write rule = after_start rule OperationKind.Write Party.Writer (value first 10)
+
+-- The limits hold of such a read.
+abbrev pub ReadWithin : Rule → ReadKind → ℕ → Type 0
+ReadWithin rule kind sent =
+    Limits rule (read_sends kind sent) (after_start rule (OperationKind.Read kind) (Party.Reader 0) (unused 0) sent)
+
 -- WHAT THE CLAIMS EXCLUDE
 
 pub record Refutable : Type 0 where
+  -- a number that is given to two operations
+  pub renumbers : (s : State ℕ) → Numbered number_given_twice s → ⊥
+  -- an operation that finishes twice
+  pub repeats : (s : State ℕ) → Numbered read_ends_twice s → ⊥
+  -- and one that finishes and never started
+  pub unstarted : (s : State ℕ) → Numbered (finishes 1 no_stamp 0 ∷ []) s → ⊥
+  -- a line of another kind or owner than the operation of its number
+  pub mislabels : (rule : Rule) (kind : OperationKind) (owner : Party)
+      → Numbered (write_starts 1 10 [] ∷ []) (after_start rule kind owner (value first 10) 0)
+      → (kind ≡ OperationKind.Write) × (owner ≡ Party.Writer)
+  -- a write that finishes with another stamp or figure than it wrote
+  pub miswrites : (t : Stamp) (f : ℕ) → AsWritten (write_ends t f) → (t ≡ first) × (f ≡ 10)
   -- a read that falls back to write 1, once another has shown write 2, which is not finished
   pub falls_back : Row 0 (second_read first 10) → ⊥
   -- and one that shows anything else than write 2
@@ -108,5 +157,11 @@ pub record Refutable : Type 0 where
   pub stalls : (rule : Rule) → Lawful rule → Finishing rule stalled (after_write rule 1) → ⊥
   -- a write that costs more than two messages for each replica, though no message of it was copied
   pub overspends : (rule : Rule) → Limits rule (overspent rule) (after_write rule (2 * rule.size + 1)) → ⊥
+  -- a quick read that costs more than four, and a relay read that costs more than two and one from each replica
+  pub quick_overspends : (rule : Rule) → ReadWithin rule ReadKind.Quick (4 * rule.size + 1) → ⊥
+  pub relay_overspends : (rule : Rule) → ReadWithin rule ReadKind.Relay (rule.size * rule.size + 2 * rule.size + 1) → ⊥
   -- a count in the journal that is not that of the messages sent
   pub miscounts : (rule : Rule) → Limits rule stalled (after_write rule 2) → ⊥
+  -- a call that is declined for its tables or for a stamp, though no one else wrote into them
+  pub finds_unsound : (c : Call ℕ) → Undisturbed (declines c Refusal.Unsound ∷ []) → ⊥
+  pub finds_ahead : (c : Call ℕ) → Undisturbed (declines c Refusal.StampAhead ∷ []) → ⊥
