@@ -114,14 +114,14 @@ module _ (t : Stamp) (f : ℕ) where
 -- A WRITE THAT NOTHING HOLDS UP
 
 none_dropped : (m place : ℕ) (e : Event ℕ) → At stalled m e → e.call ≡ Call.Drop place → ⊥
-none_dropped zero place e at call = let z : ◌≡◌ {A = ℕ} 0 1 = cc in omega arith
-none_dropped (suc zero) place e at call = let z : ◌≡◌ {A = ℕ} 0 1 = cc in omega arith
+none_dropped zero place e at call = cc
+none_dropped (suc zero) place e at call = cc
 none_dropped (suc (suc m)) place e at call = absurd at
 
 unfinished : (m n : ℕ) (x : Held ℕ) (sent exchanges : ℕ) (e : Event ℕ) → At stalled m e
     → e.reply ≡ Ok (Reply.Finished n x.stamp x.figure sent exchanges) → ⊥
-unfinished zero n x sent exchanges e at reply = let z : ◌≡◌ {A = ℕ} 0 1 = cc in omega arith
-unfinished (suc zero) n x sent exchanges e at reply = let z : ◌≡◌ {A = ℕ} 0 1 = cc in omega arith
+unfinished zero n x sent exchanges e at reply = cc
+unfinished (suc zero) n x sent exchanges e at reply = cc
 unfinished (suc (suc m)) n x sent exchanges e at reply = absurd at
 
 all_work : (rule : Rule) (sent k : ℕ) → k < rule.size → working rule (after_write rule sent) k ≡ true

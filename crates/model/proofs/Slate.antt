@@ -1,5 +1,5 @@
 -- What a row says of what its reads show, and what the events of a small history tell.
-use Rattle.std.proofs.Common.{◌≡◌, ℕ, zero, suc, ◌⊎◌, List, [], ◌∷◌, sym, refl, ◌∙◌, subst, inl, inr, arith, Ok}
+use Rattle.std.proofs.Common.{◌≡◌, ℕ, zero, suc, ◌⊎◌, List, [], ◌∷◌, sym, refl, ◌∙◌, subst, inl, inr, Ok}
 use Rattle.std.specs.List.{AllByRecursion as All}
 use Rattle.model.specs.declared.parties.Party.{Party}
 use Rattle.model.specs.declared.messages.Message.{Message}
@@ -104,19 +104,19 @@ module _ (Figure : ℕ → ℕ → Type 0) (Stamps : ℕ → Stamp → Type 0) (
   write_tells n t f h g = record {
     starts = λ k v c r. let a : n ≡ k = cc in let b : f ≡ v = cc in rw (← a, ← b) h;
     stamps = λ a i. elim i [ inl e ↦ rw (← e) g | inr u ↦ absurd u ];
-    ends = λ k x sent exchanges r. let z : ◌≡◌ {A = ℕ} 0 1 = cc in absurd (omega arith);
+    ends = λ k x sent exchanges r. cc;
   }
 
   pub read_tells : (n r : ℕ) → Tells (read_starts n r)
   read_tells n r = record {
-    starts = λ k v c q. let z : ◌≡◌ {A = ℕ} 0 1 = cc in absurd (omega arith);
+    starts = λ k v c q. cc;
     stamps = λ a i. absurd i;
-    ends = λ k x sent exchanges q. let z : ◌≡◌ {A = ℕ} 0 1 = cc in absurd (omega arith);
+    ends = λ k x sent exchanges q. cc;
   }
 
   pub finish_tells : (n : ℕ) (t : Stamp) (f : ℕ) → Ending n t f → Tells (finishes n t f)
   finish_tells n t f h = record {
-    starts = λ k v c q. let z : ◌≡◌ {A = ℕ} 0 1 = cc in absurd (omega arith);
+    starts = λ k v c q. cc;
     stamps = λ a i. absurd i;
     ends = λ k x sent exchanges r.
         let a : n ≡ k = cc in

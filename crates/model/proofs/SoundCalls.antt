@@ -145,7 +145,7 @@ module _ {F : Type 0} (rule : Rule) (s : State F) (tables : Tables rule s) where
   -- Any call that passes its tests
 
   passed : (b : Bool) (e : Refusal) (rest : Option Refusal) → cond b (Some e) rest ≡ None → b ≡ false
-  passed true e rest h = let z : ◌≡◌ {A = ℕ} 0 1 = cc in absurd (omega arith)
+  passed true e rest h = cc
   passed false e rest h = refl
 
   in_place : (place : ℕ) (rest : Option Refusal) → cond (no_place s place) (Some Refusal.NoMessage) rest ≡ None

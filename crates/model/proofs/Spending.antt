@@ -162,7 +162,7 @@ module _ {F : Type 0} where
 
     declined_stepped : (c : Call F) (e : Refusal) → Stepped rule s c (declined s e)
     declined_stepped c e = silent c (Err e) [] s.writer s.replicas s.readers s.messages refl
-        (λ n p k b i. let z : ◌≡◌ {A = ℕ} 0 1 = cc in omega arith) (λ n b u. omega arith)
+        (λ n p k b i. cc) (λ n b u. omega arith)
 
     dropped_stepped : (place : ℕ) → place < length s.messages → Stepped rule s (Call.Drop place) (dropped s place)
     unfolding dropped
@@ -512,7 +512,7 @@ module _ {F : Type 0} where
 
     first_none : (b : Bool) (e : Refusal) (rest : Option Refusal) → cond b (Some e) rest ≡ None
         → (b ≡ false) × (rest ≡ None)
-    first_none true e rest h = let z : ◌≡◌ {A = ℕ} 0 1 = cc in absurd (omega arith)
+    first_none true e rest h = cc
     first_none false e rest h = (refl, h)
 
     in_place : (place : ℕ) → no_place s place ≡ false → place < length s.messages
