@@ -1,4 +1,4 @@
--- Worked examples of the rules and of whole runs, as one statement.
+-- Worked examples of the rules, of sound tables and of whole runs, as one statement.
 use Rattle.std.specs.Prelude.{◌≡◌, ℕ, zero, suc, List, [], ◌∷◌, Ok, Err}
 use Rattle.quorum.specs.Sets.{Rule}
 use Rattle.quorum.specs.Families.{count_rule}
@@ -10,6 +10,7 @@ use Rattle.model.specs.declared.answers.Reply.{Reply}
 use Rattle.model.specs.declared.answers.Refusal.{Refusal}
 use Rattle.model.specs.Answers.{Answer}
 use Rattle.model.specs.State.{fresh}
+use Rattle.model.specs.SoundExamples.{SoundExamples}
 use Rattle.model.specs.History.{run, replies}
 
 -- The answers to a list of calls on a newly commissioned register for so many readers and waiting messages.
@@ -46,6 +47,7 @@ dones (suc n) replies = Ok Reply.Done ∷ dones n replies
 
 pub record WorkedExamples : Type 0 where
   pub rules : RuleExamples
+  pub tables : SoundExamples
   -- one replica: a relay read and three deliveries show the start, with 3 messages sent and after 3 exchanges
   pub relay_alone : (start : ℕ)
       → answers (count_rule 1 0) start 1 1024

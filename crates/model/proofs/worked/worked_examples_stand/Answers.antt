@@ -7,6 +7,21 @@ pub returns : goal.returns
 unfolding opened
 returns c = record {
   rules = rule_examples;
+  tables = record {
+    works = refl;
+    suits = refl;
+    past_the_size = refl;
+    no_party = refl;
+    other_party = refl;
+    no_operation = refl;
+    other_kind = refl;
+    other_owner = refl;
+    misplaced = refl;
+    unsound_read = refl;
+    unsound_halt = refl;
+    ahead = refl;
+    ahead_dropped = refl;
+  };
   relay_alone = λ start. refl;
   five_places = λ start figure. refl;
   listing = λ start first second. refl;
