@@ -41,10 +41,15 @@ relayed_by relayers = with_mark tables 2 1 (record { operation = 77; relayers = 
 abbrev pub waits : MessageKind → ℕ → Party → Party → State ℕ
 waits kind n from to = with_messages tables (new_message kind n from to (unused 5) ∷ [])
 
--- The same where a PUT waits with a stamp that the writer has not given yet.
+-- Reader 0 is at work with no operation.
+abbrev pub unsound_tables : State ℕ
+unsound_tables = reads 0 Phase.First 0 0
+
+-- A PUT waits with a stamp that the writer has not given yet.
 abbrev pub ahead_tables : State ℕ
 ahead_tables =
-    with_messages tables (new_message MessageKind.Put 1 Party.Writer (Party.Replica 0) (record { stamp = 1; figure = 6 }) ∷ [])
+    with_messages tables (
+    new_message MessageKind.Put 1 Party.Writer (Party.Replica 0) (record { stamp = 1; figure = 6 }) ∷ [])
 
 -- Whether the tables are sound, and what the four tests say.
 abbrev pub verdicts : State ℕ → List Bool
@@ -92,7 +97,9 @@ pub record SoundExamples : Type 0 where
       ∷ [])
   -- an operation outside the journal
   pub no_operation : Judged true false true true (
-      waits MessageKind.Put 0 Party.Writer (Party.Replica 2) ∷ waits MessageKind.Put 6 Party.Writer (Party.Replica 2) ∷ [])
+      waits MessageKind.Put 0 Party.Writer (Party.Replica 2)
+      ∷ waits MessageKind.Put 6 Party.Writer (Party.Replica 2)
+      ∷ [])
   -- an operation of another kind than the message serves
   pub other_kind : Judged true true false true (
       waits MessageKind.Put 2 Party.Writer (Party.Replica 2)
@@ -102,7 +109,9 @@ pub record SoundExamples : Type 0 where
       ∷ [])
   -- one whose owner cannot have it: a write of a reader, a read of a reader that does not exist
   pub other_owner : Judged true true false true (
-      waits MessageKind.PutAck 4 (Party.Replica 2) Party.Writer ∷ waits MessageKind.Have 5 (Party.Replica 2) (Party.Reader 0) ∷ [])
+      waits MessageKind.PutAck 4 (Party.Replica 2) Party.Writer
+      ∷ waits MessageKind.Have 5 (Party.Replica 2) (Party.Reader 0)
+      ∷ [])
   -- a reader that is idle with an operation, or at work with none, with another's read, with a write, or with no line
   pub misplaced : Judged true true true false (
       reads 2 Phase.Idle 0 0
@@ -113,8 +122,8 @@ pub record SoundExamples : Type 0 where
       ∷ reads 6 Phase.First 0 0
       ∷ [])
   -- on unsound tables every call is declined for that, also one of a reader that does not exist
-  pub unsound_read : let s = reads 0 Phase.First 0 0 in step three s (Call.Read 7 ReadKind.Quick) ≡ declined s Refusal.Unsound
-  pub unsound_halt : let s = reads 0 Phase.First 0 0 in step three s (Call.Halt Party.Writer) ≡ declined s Refusal.Unsound
+  pub unsound_read : step three unsound_tables (Call.Read 7 ReadKind.Quick) ≡ declined unsound_tables Refusal.Unsound
+  pub unsound_halt : step three unsound_tables (Call.Halt Party.Writer) ≡ declined unsound_tables Refusal.Unsound
   -- a stamp above the writer's last is not delivered; the message may be dropped
   pub ahead : step three ahead_tables (Call.Deliver 0) ≡ declined ahead_tables Refusal.StampAhead
   pub ahead_dropped : (step three ahead_tables (Call.Drop 0)).reply ≡ Ok Reply.Done

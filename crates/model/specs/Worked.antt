@@ -1,22 +1,43 @@
 -- Worked examples of the rules, of sound tables and of whole runs, as one statement.
-use Rattle.std.specs.Prelude.{◌≡◌, ℕ, zero, suc, List, [], ◌∷◌, Ok, Err}
+use Rattle.std.specs.Prelude.{◌≡◌, ℕ, zero, suc, Bool, true, false, List, [], ◌∷◌, replicate, Ok, Err}
 use Rattle.quorum.specs.Sets.{Rule}
-use Rattle.quorum.specs.Families.{count_rule}
+use Rattle.quorum.specs.Families.{count_rule, lead_rule}
 use Rattle.quorum.specs.Examples.{RuleExamples}
 use Rattle.model.specs.declared.parties.Party.{Party}
+use Rattle.model.specs.declared.reader.Phase.{Phase}
+use Rattle.model.specs.declared.messages.MessageKind.{MessageKind}
+use Rattle.model.specs.declared.journal.OperationKind.{OperationKind}
 use Rattle.model.specs.declared.journal.ReadKind.{ReadKind}
+use Rattle.model.specs.declared.replica.Replica.{Replica}
+use Rattle.model.specs.declared.journal.Operation.{Operation}
 use Rattle.model.specs.declared.calls.Call.{Call}
 use Rattle.model.specs.declared.answers.Reply.{Reply}
 use Rattle.model.specs.declared.answers.Refusal.{Refusal}
 use Rattle.model.specs.Answers.{Answer}
-use Rattle.model.specs.State.{fresh}
+use Rattle.model.specs.State.{State, Held, unused, new_reader, new_mark, new_message, fresh}
+use Rattle.model.specs.Records.{reader_now}
 use Rattle.model.specs.SoundExamples.{SoundExamples}
-use Rattle.model.specs.History.{run, replies}
+use Rattle.model.specs.History.{Run, run, replies}
 
--- The answers to a list of calls on a newly commissioned register for so many readers and waiting messages.
-abbrev pub answers : {F : Type 0} → Rule → F → ℕ → ℕ → List (Call F) → List (Answer F)
-answers rule start readers message_room calls =
-    replies (run rule (fresh rule start readers message_room 256) calls).history
+-- A list of calls on a newly commissioned register for so many readers, waiting messages and lines, and its answers.
+
+abbrev pub played : {F : Type 0} → Rule → F → ℕ → ℕ → ℕ → List (Call F) → Run F
+played rule start readers message_room journal_room calls =
+    run rule (fresh rule start readers message_room journal_room) calls
+
+abbrev pub answers : {F : Type 0} → Rule → F → ℕ → ℕ → ℕ → List (Call F) → List (Answer F)
+answers rule start readers message_room journal_room calls =
+    replies (played rule start readers message_room journal_room calls).history
+
+-- So many deliveries of the message that has waited longest, and then some calls.
+abbrev pub deliveries : {F : Type 0} → ℕ → List (Call F) → List (Call F)
+deliveries zero calls = calls
+deliveries (suc n) calls = Call.Deliver 0 ∷ deliveries n calls
+
+-- So many answers that say no more than done, and then some.
+abbrev pub dones : {F : Type 0} → ℕ → List (Answer F) → List (Answer F)
+dones zero replies = replies
+dones (suc n) replies = Ok Reply.Done ∷ dones n replies
 
 -- The calls of examples/first.script.
 abbrev pub first_script : ℕ → ℕ → List (Call ℕ)
@@ -35,31 +56,77 @@ first_script first second =
     ∷ Call.Write second
     ∷ []
 
--- So many deliveries of the message that has waited longest, and then some calls.
-abbrev pub deliveries : {F : Type 0} → ℕ → List (Call F) → List (Call F)
-deliveries zero calls = calls
-deliveries (suc n) calls = Call.Deliver 0 ∷ deliveries n calls
+-- One replica: a relay read of which the RELAY is copied, and then a second one, during which the copy arrives.
+abbrev pub relays_twice : List (Call ℕ)
+relays_twice =
+    Call.Read 0 ReadKind.Relay ∷ Call.Deliver 0 ∷ Call.Duplicate 0 ∷ Call.Deliver 0 ∷ Call.Deliver 1
+    ∷ Call.Read 0 ReadKind.Relay ∷ Call.Deliver 1 ∷ Call.Deliver 1 ∷ Call.Deliver 0 ∷ Call.Deliver 0 ∷ []
 
--- So many answers that say no more than done, and then some.
-abbrev pub dones : {F : Type 0} → ℕ → List (Answer F) → List (Answer F)
-dones zero replies = replies
-dones (suc n) replies = Ok Reply.Done ∷ dones n replies
+-- Three replicas, of which the last is halted: a write, and all that waits is delivered.
+abbrev pub one_halted : ℕ → List (Call ℕ)
+one_halted figure = Call.Write figure ∷ Call.Halt (Party.Replica 2) ∷ deliveries 6 []
+
+-- Rows of tables.
+
+abbrev pub figure_under : {F : Type 0} → ℕ → F → Held F
+figure_under t f = record { stamp = t; figure = f }
+
+abbrev pub holds : {F : Type 0} → Held F → Bool → Replica F
+holds x halted = record { stamp = x.stamp; figure = x.figure; halted = halted }
+
+abbrev pub entry : {F : Type 0} → OperationKind → Party → ℕ → ℕ → ℕ → Held F → ℕ → Operation F
+entry kind owner started finished exchanges x sent = record {
+  kind = kind;
+  owner = owner;
+  started = started;
+  finished = finished;
+  exchanges = exchanges;
+  stamp = x.stamp;
+  figure = x.figure;
+  sent = sent;
+}
+
+-- The state after the first script: two PUTs, an acknowledgement, a QUERY and a BACK still wait.
+abbrev pub first_script_end : ℕ → ℕ → State ℕ
+first_script_end start first =
+    let x : Held ℕ = figure_under 1 first in
+    record {
+      start = start;
+      message_room = 1024;
+      journal_room = 256;
+      writer = record { halted = false; last = 1; operation = 1; acknowledgers = 0 };
+      replicas = holds x false ∷ holds x false ∷ holds (unused start) false ∷ [];
+      readers = reader_now false 0 Phase.Idle 3 x 1 ∷ new_reader start ∷ [];
+      marks = replicate 6 new_mark;
+      messages =
+          new_message MessageKind.Put 1 Party.Writer (Party.Replica 1) x
+          ∷ new_message MessageKind.Put 1 Party.Writer (Party.Replica 2) x
+          ∷ new_message MessageKind.PutAck 1 (Party.Replica 0) Party.Writer (unused start)
+          ∷ new_message MessageKind.Query 2 (Party.Reader 0) (Party.Replica 2) (unused start)
+          ∷ new_message MessageKind.Back 2 (Party.Reader 0) (Party.Replica 2) x
+          ∷ [];
+      journal =
+          entry OperationKind.Write Party.Writer 1 0 0 x 4
+          ∷ entry (OperationKind.Read ReadKind.Quick) (Party.Reader 0) 2 3 4 x 10
+          ∷ [];
+      finished = 1;
+    }
 
 pub record WorkedExamples : Type 0 where
   pub rules : RuleExamples
   pub tables : SoundExamples
   -- one replica: a relay read and three deliveries show the start, with 3 messages sent and after 3 exchanges
   pub relay_alone : (start : ℕ)
-      → answers (count_rule 1 0) start 1 1024
+      → answers (count_rule 1 0) start 1 1024 256
       (Call.Read 0 ReadKind.Relay ∷ Call.Deliver 0 ∷ Call.Deliver 0 ∷ Call.Deliver 0 ∷ [])
       ≡ Ok (Reply.Started 1) ∷ Ok Reply.Done ∷ Ok Reply.Done ∷ Ok (Reply.Finished 1 0 start 3 3) ∷ []
   -- room for five messages: after a write of three a read has none, and a delivery is done
   pub five_places : (start figure : ℕ)
-      → answers (count_rule 3 1) start 1 5 (Call.Write figure ∷ Call.Read 0 ReadKind.Quick ∷ Call.Deliver 0 ∷ [])
+      → answers (count_rule 3 1) start 1 5 256 (Call.Write figure ∷ Call.Read 0 ReadKind.Quick ∷ Call.Deliver 0 ∷ [])
       ≡ Ok (Reply.Started 1) ∷ Err Refusal.NoRoom ∷ Ok Reply.Done ∷ []
   -- three replicas: a quick read meets a write that one replica has, and puts it back before it shows it
   pub listing : (start first second : ℕ)
-      → answers (count_rule 3 1) start 2 1024 (first_script first second)
+      → answers (count_rule 3 1) start 2 1024 256 (first_script first second)
       ≡ Ok (Reply.Started 1)
       ∷ Ok Reply.Done
       ∷ Ok (Reply.Started 2)
@@ -73,25 +140,64 @@ pub record WorkedExamples : Type 0 where
       ∷ Ok (Reply.Finished 2 1 first 10 4)
       ∷ Err Refusal.Busy
       ∷ []
-  -- three replicas: a write finishes on its second acknowledgement, with its own stamp and figure; then a quick read takes one round,
-  -- and a settled read two
+  -- and every place of the tables then
+  pub listing_end : (start first second : ℕ)
+      → (played (count_rule 3 1) start 2 1024 256 (first_script first second)).state ≡ first_script_end start first
+  -- three replicas: a write finishes on its second acknowledgement, with its own stamp and figure; then a quick read takes
+  -- one round, and a settled read two
   pub rounds : (start figure : ℕ)
-      → answers (count_rule 3 1) start 1 1024
-      (Call.Write figure ∷ deliveries 6 (Call.Read 0 ReadKind.Quick ∷ deliveries 6 (Call.Read 0 ReadKind.Settled ∷ deliveries 12 [])))
+      → answers (count_rule 3 1) start 1 1024 256
+      (Call.Write figure ∷ deliveries 6 (
+      Call.Read 0 ReadKind.Quick ∷ deliveries 6 (
+      Call.Read 0 ReadKind.Settled ∷ deliveries 12 [])))
       ≡ Ok (Reply.Started 1) ∷ dones 4 (Ok (Reply.Finished 1 1 figure 6 2) ∷ dones 1 (
       Ok (Reply.Started 2) ∷ dones 4 (Ok (Reply.Finished 2 1 figure 6 2) ∷ dones 1 (
       Ok (Reply.Started 3) ∷ dones 10 (Ok (Reply.Finished 3 1 figure 12 4) ∷ dones 1 [])))))
   -- a halted party starts nothing and is halted once, and who does not exist is not halted
   pub halts : (start figure : ℕ)
-      → answers (count_rule 3 1) start 1 1024
-      (Call.Halt Party.Writer ∷ Call.Write figure ∷ Call.Halt Party.Writer ∷ Call.Halt (Party.Reader 0) ∷ Call.Read 0 ReadKind.Quick
-      ∷ Call.Halt (Party.Reader 1) ∷ Call.Halt (Party.Replica 3) ∷ Call.Halt (Party.Replica 2) ∷ Call.Halt (Party.Replica 2) ∷ [])
+      → answers (count_rule 3 1) start 1 1024 256
+      (Call.Halt Party.Writer ∷ Call.Write figure ∷ Call.Halt Party.Writer ∷ Call.Halt (Party.Reader 0)
+      ∷ Call.Read 0 ReadKind.Quick ∷ Call.Halt (Party.Reader 1) ∷ Call.Halt (Party.Replica 3)
+      ∷ Call.Halt (Party.Replica 2) ∷ Call.Halt (Party.Replica 2) ∷ [])
       ≡ Ok Reply.Done ∷ Err Refusal.Halted ∷ Err Refusal.Halted ∷ Ok Reply.Done ∷ Err Refusal.Halted
       ∷ Err Refusal.NoSuchParty ∷ Err Refusal.NoSuchParty ∷ Ok Reply.Done ∷ Err Refusal.Halted ∷ []
-  -- of three PUTs one is dropped, one is copied and acknowledged twice by its replica, and one goes to a halted replica and is lost:
-  -- then nothing waits any more, and the write has not finished
+  -- of three PUTs one is dropped, one is copied and acknowledged twice by its replica, and one goes to a halted replica
+  -- and is lost: then nothing waits any more, and the write has not finished
   pub losses : (start figure : ℕ)
-      → answers (count_rule 3 1) start 1 1024
+      → answers (count_rule 3 1) start 1 1024 256
       (Call.Write figure ∷ Call.Drop 0 ∷ Call.Duplicate 0 ∷ Call.Drop 3 ∷ Call.Duplicate 3 ∷ Call.Halt (Party.Replica 2)
       ∷ deliveries 5 (Call.Deliver 0 ∷ []))
       ≡ Ok (Reply.Started 1) ∷ dones 2 (Err Refusal.NoMessage ∷ Err Refusal.NoMessage ∷ dones 6 (Err Refusal.NoMessage ∷ []))
+  -- a halted replica keeps what it held, and the write finishes without it
+  pub goes_on : (start figure : ℕ)
+      → answers (count_rule 3 1) start 1 1024 256 (one_halted figure)
+      ≡ Ok (Reply.Started 1) ∷ dones 5 (Ok (Reply.Finished 1 1 figure 5 2) ∷ Err Refusal.NoMessage ∷ [])
+  pub goes_on_end : (start figure : ℕ)
+      → (played (count_rule 3 1) start 1 1024 256 (one_halted figure)).state.replicas
+      ≡ holds (figure_under 1 figure) false ∷ holds (figure_under 1 figure) false ∷ holds (unused start) true ∷ []
+  -- a replica that is asked twice answers twice: its second answer does not count, though it knows of a newer write
+  pub counts_once : (start figure : ℕ)
+      → answers (count_rule 3 1) start 1 1024 256
+      (Call.Read 0 ReadKind.Quick ∷ Call.Duplicate 0 ∷ Call.Write figure ∷ Call.Deliver 0 ∷ Call.Deliver 3 ∷ Call.Deliver 2
+      ∷ Call.Deliver 4 ∷ Call.Deliver 5 ∷ Call.Deliver 0 ∷ Call.Deliver 4 ∷ [])
+      ≡ Ok (Reply.Started 1) ∷ dones 1 (Ok (Reply.Started 2) ∷ dones 6 (Ok (Reply.Finished 1 0 start 6 2) ∷ []))
+  -- the second relay read restarts the mark, and the late copy of the first one's RELAY changes nothing
+  pub relays_again : (start : ℕ)
+      → answers (count_rule 1 0) start 1 1024 256 relays_twice
+      ≡ Ok (Reply.Started 1) ∷ dones 3 (Ok (Reply.Finished 1 0 start 3 3)
+      ∷ Ok (Reply.Started 2) ∷ dones 3 (Ok (Reply.Finished 2 0 start 3 3) ∷ []))
+  pub relays_again_end : (start : ℕ)
+      → (played (count_rule 1 0) start 1 1024 256 relays_twice).state.marks
+      ≡ record { operation = 2; relayers = 1; replied = true } ∷ []
+  -- three replicas under the lead of replica 0: the acknowledgements of the other two do not finish a write
+  pub leads : (start figure : ℕ)
+      → answers (lead_rule (count_rule 3 1) 0) start 1 1024 256
+      (Call.Write figure ∷ Call.Deliver 2 ∷ Call.Deliver 1 ∷ Call.Deliver 1 ∷ Call.Deliver 1 ∷ deliveries 2 [])
+      ≡ Ok (Reply.Started 1) ∷ dones 5 (Ok (Reply.Finished 1 1 figure 6 2) ∷ [])
+  -- room for one message and one line: of several refusals that apply the first is answered
+  pub refuses : (start figure : ℕ)
+      → answers (count_rule 1 0) start 1 1 1
+      (Call.Write figure ∷ Call.Write figure ∷ Call.Read 0 ReadKind.Quick ∷ Call.Read 1 ReadKind.Quick ∷ Call.Duplicate 0
+      ∷ Call.Halt Party.Writer ∷ Call.Write figure ∷ deliveries 3 [])
+      ≡ Ok (Reply.Started 1) ∷ Err Refusal.Busy ∷ Err Refusal.JournalFull ∷ Err Refusal.NoSuchParty ∷ Err Refusal.NoRoom
+      ∷ Ok Reply.Done ∷ Err Refusal.Halted ∷ dones 2 (Err Refusal.NoMessage ∷ [])

@@ -25,7 +25,15 @@ returns c = record {
   relay_alone = λ start. refl;
   five_places = λ start figure. refl;
   listing = λ start first second. refl;
+  listing_end = λ start first second. refl;
   rounds = λ start figure. refl;
   halts = λ start figure. refl;
   losses = λ start figure. refl;
+  goes_on = λ start figure. refl;
+  goes_on_end = λ start figure. refl;
+  counts_once = λ start figure. refl;
+  relays_again = λ start. refl;
+  relays_again_end = λ start. refl;
+  leads = λ start figure. refl;
+  refuses = λ start figure. refl;
 }
