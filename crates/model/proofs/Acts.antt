@@ -16,7 +16,7 @@ use Rattle.std.proofs.lemmas.List.{get_or-set_same}
 use Rattle.model.proofs.Lists.{each_set_all}
 use Rattle.model.proofs.World.{World, Later}
 use Rattle.model.proofs.Moves.{raised, later_raised, core_raised}
-use Rattle.model.proofs.Good.{True, Store, MarkGood, Told, Good, Kept, true_later, mark_later, messages_later, phase_later, writing_later, line_later, advance}
+use Rattle.model.proofs.Good.{True, Store, Ack, Says, MarkGood, Told, Good, Kept, true_later, mark_later, messages_later, phase_later, writing_later, line_later, advance}
 use Rattle.model.proofs.Steps.{delivery}
 
 pub record Takes {F : Type 0} (w : World F) (own offered x : Held F) : Type 0 where
@@ -119,46 +119,32 @@ module _ {F : Type 0} (q : Rule) (R : ℕ) (law : Lawful q) (start : F) (w : Wor
     took_by m x =
         takes w (held s (index m.receiver)) (carried m) (g.figures (index m.receiver)) x.true_figure
 
-    pub kept_put : (m : Message F) → Store q w m → K (on_offer s m MessageKind.PutAck)
+    -- A replica takes what is offered and acknowledges it, a PUT and a BACK alike.
+    kept_offer : (ack : MessageKind) → ((v : World F) (a : Message F) → Ack v a → Says q R v ack a)
+        → (m : Message F) → Store q w m → K (on_offer s m ack)
     unfolding on_offer
-    kept_put m x =
+    kept_offer ack says m x =
         let c = index m.receiver in
+        let by = took_by m x in
         record {
-          world = v₂ c x.to_low (carried m) _ (took_by m x);
+          world = v₂ c x.to_low (carried m) _ by;
           good =
-              raises c x.to_low (carried m) _ (took_by m x) s.marks _
-              (old_marks₂ c x.to_low (carried m) _ (took_by m x))
+              raises c x.to_low (carried m) _ by s.marks _ (old_marks₂ c x.to_low (carried m) _ by)
               (record {
                 answers = tt;
                 sent_says = (
-                  record {
+                  says _ _ (record {
                     settled = x.settled;
-                    reached = omega (arith, covers c x.to_low (carried m) _ (took_by m x), x.aims);
+                    reached = omega (arith, covers c x.to_low (carried m) _ by, x.aims);
                     to_owner = (g.lines m.operation).owner_is (omega (arith, x.settled));
-                  },
+                  }),
                   tt,
                 );
               });
         }
 
+    pub kept_put : (m : Message F) → Store q w m → K (on_offer s m MessageKind.PutAck)
+    kept_put = kept_offer MessageKind.PutAck (λ v a x. x)
+
     pub kept_back : (m : Message F) → Store q w m → K (on_offer s m MessageKind.BackAck)
-    unfolding on_offer
-    kept_back m x =
-        let c = index m.receiver in
-        record {
-          world = v₂ c x.to_low (carried m) _ (took_by m x);
-          good =
-              raises c x.to_low (carried m) _ (took_by m x) s.marks _
-              (old_marks₂ c x.to_low (carried m) _ (took_by m x))
-              (record {
-                answers = tt;
-                sent_says = (
-                  record {
-                    settled = x.settled;
-                    reached = omega (arith, covers c x.to_low (carried m) _ (took_by m x), x.aims);
-                    to_owner = (g.lines m.operation).owner_is (omega (arith, x.settled));
-                  },
-                  tt,
-                );
-              });
-        }
+    kept_back = kept_offer MessageKind.BackAck (λ v a x. x)

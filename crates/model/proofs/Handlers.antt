@@ -18,7 +18,7 @@ use Rattle.model.specs.Sound.{a_reader, a_replica, suits, owned, recorded, idle,
 use Rattle.model.specs.Deliveries.{Effect, quiet, sending, to_all, carried, answer, counts, in_first, in_second, in_relay, read_finishing, after_have, after_last, is_quick, on_offer, on_put_ack, on_query, on_have, on_back_ack, on_reply, on_fan, on_relay, on, received}
 use Rattle.model.specs.Claims.{of_operation}
 use Rattle.model.proofs.Places.{reader_index, replica_index, not_idle}
-use Rattle.model.proofs.Totals.{set_below, weight, only_for, only_same, only_other, load_of, load, of_operation_to_all, load_to_all, Of, all_to_all, LinesKept, lines_same, lines_ended}
+use Rattle.model.proofs.Totals.{set_below, weight, only_for, only_same, only_other, load_of, load, of_operation_to_all, load_to_all, Of, to_all_of, LinesKept, lines_same, lines_ended}
 use Rattle.model.proofs.Reserve.{pending, unanswered, unreplied, reserve, unreplied_below, unreplied_less, marked_below, replied_below, marked_operation, could_reply, has_replied, reserve_below}
 
 module _ {F : Type 0} where
@@ -96,7 +96,7 @@ module _ {F : Type 0} where
       marks_kept = refl;
       lines = lines_same s.journal;
       its_own =
-          all_to_all m.operation m.operation refl rule.size MessageKind.Relay m.receiver
+          to_all_of m.operation m.operation refl rule.size MessageKind.Relay m.receiver
           (held s (index m.receiver));
       spends = λ n b.
           let x = held s (index m.receiver) in
@@ -301,7 +301,7 @@ module _ {F : Type 0} where
         readers_kept = length-set s.readers r (placing d);
         marks_kept = refl;
         lines = lines_same s.journal;
-        its_own = all_to_all m.operation d.operation op rule.size MessageKind.Back (Party.Reader r) (best d);
+        its_own = to_all_of m.operation d.operation op rule.size MessageKind.Back (Party.Reader r) (best d);
         spends = place_spends inside op same first round own;
       }
 

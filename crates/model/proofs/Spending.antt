@@ -26,7 +26,7 @@ use Rattle.model.specs.Sound.{each_from, addressed, suits, recorded, placed, in_
 use Rattle.model.specs.Deliveries.{Effect, to_all, in_first, received}
 use Rattle.model.specs.Steps.{Outcome, declined, counted, posted, outcome, next_number, to_write, write, opening_phase, opening_message, read, deliver, dropped, duplicated, halt, done, tests, first_of, refusal, overfull, settled, step, no_place}
 use Rattle.model.specs.Claims.{In, asked, of_operation, limit}
-use Rattle.model.proofs.Totals.{set_below, weight, only_same, only_other, load, load_append, load_without, of_operation_to_all, load_to_all, Of, all_to_all, of_operation_none, load_none, load_past, LinesKept, counted_length, counted_keeps, counted_sent}
+use Rattle.model.proofs.Totals.{set_below, weight, only_same, only_other, load, load_append, load_without, of_operation_to_all, load_to_all, Of, to_all_of, of_operation_none, load_none, load_past, LinesKept, counted_length, counted_keeps, counted_sent}
 use Rattle.model.proofs.Reserve.{pending, unreplied, reserve, unreplied_most, reserve_below}
 use Rattle.model.proofs.Handlers.{reserved, Handled, received_handled}
 use Rattle.model.specs.Answers.{Answer}
@@ -377,7 +377,7 @@ module _ {F : Type 0} where
         opened_stepped c kind_is = record {
           shape = shaped ∙ ap (λ (k : ℕ). rule.size * k) (sym wide);
           more_lines = omega (arith, many_lines);
-          past = λ n b. of_operation_none n (next_number s) (to_all rule.size kind (next_number s) from x) (all_to_all (next_number s) (next_number s) refl rule.size kind from x) (λ e. omega (arith, many_lines));
+          past = λ n b. of_operation_none n (next_number s) (to_all rule.size kind (next_number s) from x) (to_all_of (next_number s) (next_number s) refl rule.size kind from x) (λ e. omega (arith, many_lines));
           kind_kept = λ n b h. same_field (λ (y : Operation F). y.kind) (λ y. refl) n ∙ ap (λ (y : Operation F). y.kind) (old_line n b h);
           counts = λ n b h.
               let before = sent_before n b (omega (arith, many_lines)) in
@@ -396,7 +396,7 @@ module _ {F : Type 0} where
             positive =
                 All-weaker (Of (next_number s)) (λ (a : Message F). 1 ≤ a.operation) (λ a i. omega arith)
                 (to_all rule.size kind (next_number s) from x)
-                (all_to_all (next_number s) (next_number s) refl rule.size kind from x)
+                (to_all_of (next_number s) (next_number s) refl rule.size kind from x)
 
             new_kind : (n : ℕ) → length s.journal < n → n ≤ suc (length s.journal)
                 → (line opened.next n).kind ≡ o.kind
@@ -412,7 +412,7 @@ module _ {F : Type 0} where
                 → of_operation n opened.sent + remaining rule opened.next n ≤ remaining rule s n
             old_spends n b h =
                 let other : (next_number s ≡ n → ⊥) = λ (e : next_number s ≡ n). omega arith in
-                let own = all_to_all (next_number s) (next_number s) refl rule.size kind from x in
+                let own = to_all_of (next_number s) (next_number s) refl rule.size kind from x in
                 let no_more =
                 of_operation_none n (next_number s) (to_all rule.size kind (next_number s) from x) own
                 other in

@@ -2,7 +2,6 @@
 use Rattle.std.proofs.Common.{◌≡◌, ℕ, zero, suc, pred, ◌+◌, ◌*◌, ◌<◌, ◌≤◌, min, Bool, true, false, cond, eqb, List, [], ◌∷◌, ◌++◌, length, get_or, set, sym, refl, ap, ◌∙◌, inl, inr, arith, length-set}
 use Rattle.std.specs.List.{AllByRecursion as All}
 use Rattle.std.proofs.lemmas.List.{get_or_default, get_or-set_same, get_or-set_other}
-use Rattle.std.proofs.ByRecursion.{All-push}
 use Rattle.std.proofs.lemmas.Bool.{eq-eqb, ne_eqb, cases_eq, cond-true, cond-false}
 use Rattle.model.specs.declared.parties.Party.{Party}
 use Rattle.model.specs.declared.messages.MessageKind.{MessageKind}
@@ -13,6 +12,7 @@ use Rattle.model.specs.Records.{one_sent, ended}
 use Rattle.model.specs.Deliveries.{to_all}
 use Rattle.model.specs.Steps.{counted}
 use Rattle.model.specs.Claims.{of_operation}
+use Rattle.model.proofs.Lists.{all_to_all}
 
 -- Tables
 
@@ -140,11 +140,9 @@ module _ {F : Type 0} where
   abbrev pub Of : ℕ → Message F → Type 0
   Of k a = a.operation ≡ k
 
-  pub all_to_all : (k n : ℕ) → n ≡ k → (c : ℕ) (kind : MessageKind) (from : Party) (x : Held F)
+  pub to_all_of : (k n : ℕ) → n ≡ k → (c : ℕ) (kind : MessageKind) (from : Party) (x : Held F)
       → All (Of k) (to_all c kind n from x)
-  unfolding to_all
-  all_to_all k n e zero kind from x = tt
-  all_to_all k n e (suc c) kind from x = All-push (Of k) (to_all c kind n from x) _ (all_to_all k n e c kind from x) e
+  to_all_of k n e c kind from x = all_to_all kind n from x (Of k) c (λ _ _. e)
 
   pub of_operation_none : (n k : ℕ) (l : List (Message F)) → All (Of k) l → (k ≡ n → ⊥) → of_operation n l ≡ 0
   unfolding of_operation
