@@ -182,6 +182,7 @@ refutable = record {
   stalls = not_stalled;
   overspends = not_overspent;
   quick_overspends = λ rule l. omega (arith, read_within rule ReadKind.Quick _ l);
+  settled_overspends = λ rule l. omega (arith, read_within rule ReadKind.Settled _ l);
   relay_overspends = λ rule l. omega (arith, read_within rule ReadKind.Relay _ l);
   miscounts = not_miscounted;
   finds_unsound = λ c u. (u 0 _ refl).0 refl;

@@ -126,7 +126,8 @@ Unawaited {F} s n = (a : Message F) → In a s.messages → a.operation ≡ n �
 abbrev pub working : {F : Type 0} → Rule → State F → Members
 working rule s c = nat_lt c rule.size && not (halted s (Party.Replica c))
 
--- An operation has finished if its owner works, enough replicas do, and no message of it is lost or still under way.
+-- An operation has finished if its owner works, enough replicas do, no message of it was dropped, and none of them waits
+-- for a party at work.
 abbrev pub Finishing : {F : Type 0} → Rule → History F → State F → Type 0
 Finishing rule h s =
     (m n : ℕ) (owner : Party) (kind : OperationKind) → Starts h m n owner kind
@@ -156,6 +157,7 @@ limit size (OperationKind.Read ReadKind.Relay) = size * size + 2 * size
 pub record Limits {F : Type 0} (rule : Rule) (h : History F) (s : State F) : Type 0 where
   -- an operation's count in the journal is of the messages that were sent for it, up to 65,535
   pub true_counts : (n : ℕ) → 1 ≤ n → n ≤ length s.journal → (line s n).sent ≡ min (sent_for n h) 65535
+  -- and within the limit of its kind, if no message of it was copied
   pub bounded : (m n : ℕ) (owner : Party) (kind : OperationKind) → Starts h m n owner kind
       → Uncopied h n → (line s n).sent ≤ limit rule.size kind
 

@@ -37,11 +37,11 @@ put n t f = new_message MessageKind.Put n Party.Writer (Party.Replica 0) (value 
 abbrev pub write_starts : ℕ → ℕ → List (Message ℕ) → Event ℕ
 write_starts n f sent = record { call = Call.Write f; reply = Ok (Reply.Started n); taken = []; sent = sent }
 
--- Read n of reader r starts.
+-- Quick read n of reader r starts. Its messages are left out.
 abbrev pub read_starts : ℕ → ℕ → Event ℕ
 read_starts n r = record { call = Call.Read r ReadKind.Quick; reply = Ok (Reply.Started n); taken = []; sent = [] }
 
--- A delivery finishes operation n with a stamp and a figure. The row does not ask which message was delivered.
+-- A delivery finishes operation n with a stamp and a figure. No claim asks which message was delivered.
 abbrev pub finishes : ℕ → Stamp → ℕ → Event ℕ
 finishes n t f = record { call = Call.Deliver 0; reply = Ok (Reply.Finished n t f 2 2); taken = []; sent = [] }
 
@@ -157,8 +157,10 @@ pub record Refutable : Type 0 where
   pub stalls : (rule : Rule) → Lawful rule → Finishing rule stalled (after_write rule 1) → ⊥
   -- a write that costs more than two messages for each replica, though no message of it was copied
   pub overspends : (rule : Rule) → Limits rule (overspent rule) (after_write rule (2 * rule.size + 1)) → ⊥
-  -- a quick read that costs more than four, and a relay read that costs more than two and one from each replica
+  -- a quick or a settled read that costs more than four for each
   pub quick_overspends : (rule : Rule) → ReadWithin rule ReadKind.Quick (4 * rule.size + 1) → ⊥
+  pub settled_overspends : (rule : Rule) → ReadWithin rule ReadKind.Settled (4 * rule.size + 1) → ⊥
+  -- and a relay read that costs more than two for each and one from each to each
   pub relay_overspends : (rule : Rule) → ReadWithin rule ReadKind.Relay (rule.size * rule.size + 2 * rule.size + 1) → ⊥
   -- a count in the journal that is not that of the messages sent
   pub miscounts : (rule : Rule) → Limits rule stalled (after_write rule 2) → ⊥
