@@ -56,11 +56,14 @@ first_script first second =
     ∷ Call.Write second
     ∷ []
 
--- One replica: a relay read of which the RELAY is copied, and then a second one, during which the copy arrives.
-abbrev pub relays_twice : List (Call ℕ)
-relays_twice =
-    Call.Read 0 ReadKind.Relay ∷ Call.Deliver 0 ∷ Call.Duplicate 0 ∷ Call.Deliver 0 ∷ Call.Deliver 1
-    ∷ Call.Read 0 ReadKind.Relay ∷ Call.Deliver 1 ∷ Call.Deliver 1 ∷ Call.Deliver 0 ∷ Call.Deliver 0 ∷ []
+-- Two replicas: a relay read, during which a write reaches replica 1 alone, and a second relay read. A copy of the first
+-- one's RELAY from replica 0 to itself arrives late, during the second.
+abbrev pub relays_twice : ℕ → List (Call ℕ)
+relays_twice figure =
+    Call.Read 0 ReadKind.Relay ∷ Call.Deliver 0 ∷ Call.Deliver 0 ∷ Call.Duplicate 0 ∷ Call.Deliver 0 ∷ Call.Deliver 0
+    ∷ Call.Write figure ∷ Call.Deliver 4 ∷ Call.Deliver 0 ∷ Call.Deliver 0 ∷ Call.Deliver 4 ∷ Call.Deliver 3
+    ∷ Call.Read 0 ReadKind.Relay ∷ Call.Deliver 3 ∷ Call.Deliver 4 ∷ Call.Deliver 0 ∷ Call.Deliver 2 ∷ Call.Deliver 3
+    ∷ Call.Deliver 2 ∷ Call.Deliver 2 ∷ Call.Deliver 2 ∷ Call.Deliver 2 ∷ []
 
 -- Three replicas, of which the last is halted: a write, and all that waits is delivered.
 abbrev pub one_halted : ℕ → List (Call ℕ)
@@ -181,14 +184,27 @@ pub record WorkedExamples : Type 0 where
       (Call.Read 0 ReadKind.Quick ∷ Call.Duplicate 0 ∷ Call.Write figure ∷ Call.Deliver 0 ∷ Call.Deliver 3 ∷ Call.Deliver 2
       ∷ Call.Deliver 4 ∷ Call.Deliver 5 ∷ Call.Deliver 0 ∷ Call.Deliver 4 ∷ [])
       ≡ Ok (Reply.Started 1) ∷ dones 1 (Ok (Reply.Started 2) ∷ dones 6 (Ok (Reply.Finished 1 0 start 6 2) ∷ []))
-  -- the second relay read restarts the mark, and the late copy of the first one's RELAY changes nothing
-  pub relays_again : (start : ℕ)
-      → answers (count_rule 1 0) start 1 1024 256 relays_twice
-      ≡ Ok (Reply.Started 1) ∷ dones 3 (Ok (Reply.Finished 1 0 start 3 3)
-      ∷ Ok (Reply.Started 2) ∷ dones 3 (Ok (Reply.Finished 2 0 start 3 3) ∷ []))
-  pub relays_again_end : (start : ℕ)
-      → (played (count_rule 1 0) start 1 1024 256 relays_twice).state.marks
-      ≡ record { operation = 2; relayers = 1; replied = true } ∷ []
+  -- a second write has the next stamp and needs acknowledgements of its own; a late one of the first does not count
+  pub writes_again : (start first second : ℕ)
+      → answers (count_rule 3 1) start 1 1024 256
+      (Call.Write first ∷ deliveries 5 (Call.Write second ∷ deliveries 6 []))
+      ≡ Ok (Reply.Started 1) ∷ dones 4 (Ok (Reply.Finished 1 1 first 6 2)
+      ∷ Ok (Reply.Started 2) ∷ dones 5 (Ok (Reply.Finished 2 2 second 6 2) ∷ []))
+  -- a quick read that hears of a write from the second replica it hears of puts it back: the first does not hold it
+  pub puts_back : (start figure : ℕ)
+      → answers (count_rule 3 1) start 1 1024 256
+      (Call.Write figure ∷ Call.Deliver 1 ∷ Call.Read 0 ReadKind.Quick ∷ Call.Deliver 3 ∷ Call.Deliver 3 ∷ Call.Deliver 4
+      ∷ Call.Deliver 4 ∷ Call.Deliver 4 ∷ Call.Deliver 4 ∷ Call.Deliver 5 ∷ Call.Deliver 5 ∷ [])
+      ≡ Ok (Reply.Started 1) ∷ dones 1 (Ok (Reply.Started 2) ∷ dones 7 (Ok (Reply.Finished 2 1 figure 10 4) ∷ []))
+  -- a relay read shows the lowest reply; the next one restarts the marks, the late copy changes nothing, and it shows the write
+  pub relays : (start figure : ℕ)
+      → answers (count_rule 2 0) start 1 1024 256 (relays_twice figure)
+      ≡ Ok (Reply.Started 1) ∷ dones 5 (
+      Ok (Reply.Started 2) ∷ dones 4 (Ok (Reply.Finished 1 0 start 8 3) ∷
+      Ok (Reply.Started 3) ∷ dones 8 (Ok (Reply.Finished 3 1 figure 8 3) ∷ [])))
+  pub relays_end : (start figure : ℕ)
+      → (played (count_rule 2 0) start 1 1024 256 (relays_twice figure)).state.marks
+      ≡ replicate 2 (record { operation = 3; relayers = 3; replied = true })
   -- three replicas under the lead of replica 0: the acknowledgements of the other two do not finish a write
   pub leads : (start figure : ℕ)
       → answers (lead_rule (count_rule 3 1) 0) start 1 1024 256

@@ -32,8 +32,10 @@ returns c = record {
   goes_on = λ start figure. refl;
   goes_on_end = λ start figure. refl;
   counts_once = λ start figure. refl;
-  relays_again = λ start. refl;
-  relays_again_end = λ start. refl;
+  writes_again = λ start first second. refl;
+  puts_back = λ start figure. refl;
+  relays = λ start figure. refl;
+  relays_end = λ start figure. refl;
   leads = λ start figure. refl;
   refuses = λ start figure. refl;
 }
