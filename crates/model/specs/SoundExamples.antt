@@ -18,12 +18,12 @@ use Rattle.model.specs.Steps.{declined, step}
 abbrev pub three : Rule
 three = count_rule 3 1
 
--- A register of three replicas and two readers, both idle. Its journal has a write, a quick read of reader 0, a relay read
--- of reader 1, and two lines whose owners cannot have them.
+-- A register of three replicas and two readers, both idle. Its journal has a quick read of reader 0, a write, a relay
+-- read of reader 1, and two lines whose owners cannot have them.
 abbrev pub tables : State ℕ
 tables = with_journal (fresh three 5 2 9 9) (
-    new_line OperationKind.Write Party.Writer 1 (unused 5)
-    ∷ new_line (OperationKind.Read ReadKind.Quick) (Party.Reader 0) 2 (unused 5)
+    new_line (OperationKind.Read ReadKind.Quick) (Party.Reader 0) 1 (unused 5)
+    ∷ new_line OperationKind.Write Party.Writer 2 (unused 5)
     ∷ new_line (OperationKind.Read ReadKind.Relay) (Party.Reader 1) 3 (unused 5)
     ∷ new_line OperationKind.Write (Party.Reader 0) 4 (unused 5)
     ∷ new_line (OperationKind.Read ReadKind.Settled) (Party.Reader 2) 5 (unused 5)
@@ -49,7 +49,7 @@ unsound_tables = reads 0 Phase.First 0 0
 abbrev pub ahead_tables : State ℕ
 ahead_tables =
     with_messages tables (
-    new_message MessageKind.Put 1 Party.Writer (Party.Replica 0) (record { stamp = 1; figure = 6 }) ∷ [])
+    new_message MessageKind.Put 2 Party.Writer (Party.Replica 0) (record { stamp = 1; figure = 6 }) ∷ [])
 
 -- Whether the tables are sound, and what the four tests say.
 abbrev pub verdicts : State ℕ → List Bool
@@ -65,47 +65,64 @@ Judged sets addressed recorded placed l =
 pub record SoundExamples : Type 0 where
   -- a reader with its own read, in any phase, with any set of the three replicas, and a mark that names them all
   pub works : Judged true true true true (
-      tables ∷ reads 2 Phase.First 7 7 ∷ reads 2 Phase.Second 1 3 ∷ reads 2 Phase.Relay 0 0 ∷ relayed_by 7 ∷ [])
-  -- a message of each kind; of its other party no more is asked than that it suits the kind
+      tables ∷ reads 1 Phase.First 7 7 ∷ reads 1 Phase.Second 1 3 ∷ reads 1 Phase.Relay 0 0 ∷ relayed_by 7 ∷ [])
+  -- a message of each kind; of its parties no more is asked than that they suit the kind
   pub suits : Judged true true true true (
-      waits MessageKind.Put 1 Party.Writer (Party.Replica 2)
-      ∷ waits MessageKind.PutAck 1 (Party.Replica 2) Party.Writer
-      ∷ waits MessageKind.Query 2 (Party.Reader 0) (Party.Replica 2)
-      ∷ waits MessageKind.Have 2 (Party.Replica 2) (Party.Reader 1)
-      ∷ waits MessageKind.Back 2 (Party.Reader 0) (Party.Replica 2)
-      ∷ waits MessageKind.BackAck 2 (Party.Replica 2) (Party.Reader 0)
+      waits MessageKind.Put 2 Party.Writer (Party.Replica 2)
+      ∷ waits MessageKind.PutAck 2 (Party.Replica 2) Party.Writer
+      ∷ waits MessageKind.Query 1 (Party.Reader 0) (Party.Replica 2)
+      ∷ waits MessageKind.Have 1 (Party.Replica 2) (Party.Reader 1)
+      ∷ waits MessageKind.Back 1 (Party.Reader 0) (Party.Replica 2)
+      ∷ waits MessageKind.BackAck 1 (Party.Replica 2) (Party.Reader 0)
       ∷ waits MessageKind.Fan 3 (Party.Reader 1) (Party.Replica 2)
       ∷ waits MessageKind.Relay 3 (Party.Replica 2) (Party.Replica 2)
       ∷ waits MessageKind.Reply 3 (Party.Replica 2) (Party.Reader 1)
       ∷ [])
   -- a set with a fourth replica: of replies, of holders, of an idle reader, of relayers
   pub past_the_size : Judged false true true true (
-      reads 2 Phase.First 8 0 ∷ reads 2 Phase.First 0 8 ∷ reads 0 Phase.Idle 15 0 ∷ relayed_by 8 ∷ [])
+      reads 1 Phase.First 8 0 ∷ reads 1 Phase.First 0 8 ∷ reads 0 Phase.Idle 15 0 ∷ relayed_by 8 ∷ [])
   -- a sender or a receiver that does not exist
   pub no_party : Judged true false true true (
-      waits MessageKind.Put 1 Party.Writer (Party.Replica 3)
-      ∷ waits MessageKind.Query 2 (Party.Reader 2) (Party.Replica 2)
-      ∷ waits MessageKind.Have 2 (Party.Replica 3) (Party.Reader 0)
-      ∷ waits MessageKind.Reply 3 (Party.Replica 2) (Party.Reader 2)
+      waits MessageKind.Put 2 Party.Writer (Party.Replica 3)
+      ∷ waits MessageKind.PutAck 2 (Party.Replica 3) Party.Writer
+      ∷ waits MessageKind.Query 1 (Party.Reader 2) (Party.Replica 2)
+      ∷ waits MessageKind.Have 1 (Party.Replica 3) (Party.Reader 0)
+      ∷ waits MessageKind.Back 1 (Party.Reader 2) (Party.Replica 2)
+      ∷ waits MessageKind.BackAck 1 (Party.Replica 2) (Party.Reader 2)
+      ∷ waits MessageKind.Fan 3 (Party.Reader 2) (Party.Replica 2)
+      ∷ waits MessageKind.Relay 3 (Party.Replica 2) (Party.Replica 3)
+      ∷ waits MessageKind.Reply 3 (Party.Replica 3) (Party.Reader 1)
       ∷ [])
   -- one that does not suit the kind
   pub other_party : Judged true false true true (
-      waits MessageKind.Put 1 (Party.Reader 0) (Party.Replica 2)
-      ∷ waits MessageKind.PutAck 1 (Party.Replica 2) (Party.Reader 0)
-      ∷ waits MessageKind.Relay 3 (Party.Reader 1) (Party.Replica 2)
+      waits MessageKind.Put 2 (Party.Reader 0) (Party.Replica 2)
+      ∷ waits MessageKind.PutAck 2 (Party.Replica 2) (Party.Reader 0)
+      ∷ waits MessageKind.Query 1 (Party.Reader 0) Party.Writer
+      ∷ waits MessageKind.Have 1 (Party.Replica 2) (Party.Replica 2)
+      ∷ waits MessageKind.Back 1 (Party.Reader 0) (Party.Reader 0)
+      ∷ waits MessageKind.BackAck 1 Party.Writer (Party.Reader 0)
       ∷ waits MessageKind.Fan 3 (Party.Reader 1) (Party.Reader 1)
+      ∷ waits MessageKind.Relay 3 (Party.Reader 1) (Party.Replica 2)
+      ∷ waits MessageKind.Reply 3 (Party.Replica 2) Party.Writer
       ∷ [])
   -- an operation outside the journal
   pub no_operation : Judged true false true true (
-      waits MessageKind.Put 0 Party.Writer (Party.Replica 2)
+      waits MessageKind.Query 0 (Party.Reader 0) (Party.Replica 2)
       ∷ waits MessageKind.Put 6 Party.Writer (Party.Replica 2)
       ∷ [])
-  -- an operation of another kind than the message serves
+  -- an operation that the message does not serve: a read for a write's, another read or a write for a read's
   pub other_kind : Judged true true false true (
-      waits MessageKind.Put 2 Party.Writer (Party.Replica 2)
-      ∷ waits MessageKind.Query 1 (Party.Reader 0) (Party.Replica 2)
+      waits MessageKind.Put 1 Party.Writer (Party.Replica 2)
+      ∷ waits MessageKind.PutAck 1 (Party.Replica 2) Party.Writer
+      ∷ waits MessageKind.Query 3 (Party.Reader 0) (Party.Replica 2)
+      ∷ waits MessageKind.Have 3 (Party.Replica 2) (Party.Reader 0)
+      ∷ waits MessageKind.Back 3 (Party.Reader 0) (Party.Replica 2)
       ∷ waits MessageKind.BackAck 3 (Party.Replica 2) (Party.Reader 0)
-      ∷ waits MessageKind.Fan 2 (Party.Reader 0) (Party.Replica 2)
+      ∷ waits MessageKind.Fan 1 (Party.Reader 1) (Party.Replica 2)
+      ∷ waits MessageKind.Relay 1 (Party.Replica 2) (Party.Replica 2)
+      ∷ waits MessageKind.Reply 1 (Party.Replica 2) (Party.Reader 1)
+      ∷ waits MessageKind.Have 2 (Party.Replica 2) (Party.Reader 0)
+      ∷ waits MessageKind.Reply 2 (Party.Replica 2) (Party.Reader 1)
       ∷ [])
   -- one whose owner cannot have it: a write of a reader, a read of a reader that does not exist
   pub other_owner : Judged true true false true (
@@ -114,10 +131,10 @@ pub record SoundExamples : Type 0 where
       ∷ [])
   -- a reader that is idle with an operation, or at work with none, with another's read, with a write, or with no line
   pub misplaced : Judged true true true false (
-      reads 2 Phase.Idle 0 0
+      reads 1 Phase.Idle 0 0
       ∷ reads 0 Phase.First 0 0
       ∷ reads 3 Phase.Relay 0 0
-      ∷ reads 1 Phase.First 0 0
+      ∷ reads 2 Phase.First 0 0
       ∷ reads 4 Phase.First 0 0
       ∷ reads 6 Phase.First 0 0
       ∷ [])
