@@ -15,7 +15,7 @@ use Rattle.model.specs.Stamps.{Stamp, rank, no_stamp}
 use Rattle.model.specs.State.{State, Held, new_replica, fresh, unused}
 use Rattle.model.specs.History.{Event, History}
 use Rattle.model.specs.Claims.{At, Finishes, Writes, Numbered, AsWritten, Row, working, Finishing, Uncopied, of_operation, sent_for, limit, Limits}
-use Rattle.model.specs.Refuted.{value, write_starts, finishes, first, second, number_given_twice, read_ends_twice, write_ends}
+use Rattle.model.specs.Refuted.{value, write_starts, read_starts, finishes, first, second, number_given_twice, read_ends_twice, write_ends}
 use Rattle.model.specs.Refuted.{read_after_write, stalled, overspent, after_start, after_write, ReadWithin, Refutable}
 use Rattle.model.proofs.Ranks.{rank_next}
 use Rattle.model.proofs.Slate.{shows_after, Tells, write_tells, read_tells, finish_tells, written, writes_from, ended}
@@ -23,6 +23,10 @@ use Rattle.model.proofs.Slate.{finish_at, write_at, read_at}
 use Rattle.model.proofs.FallenBack.{only_newest}
 
 -- NUMBERS
+
+not_unlisted : (rule : Rule) (k : ℕ) → Numbered (read_starts k 0 ∷ []) (fresh rule 0 1 64 8) → ⊥
+unfolding fresh
+not_unlisted rule k n = let line = n.in_journal 0 k _ _ (read_at (read_starts k 0 ∷ []) k 0 0 refl) in omega arith
 
 not_renumbered : (s : State ℕ) → Numbered number_given_twice s → ⊥
 not_renumbered s n =
@@ -170,6 +174,7 @@ rises t u l e = omega (arith, ap rank e)
 
 pub refutable : Refutable
 refutable = record {
+  unlisted = not_unlisted;
   renumbers = not_renumbered;
   repeats = not_repeated;
   unstarted = not_unstarted;

@@ -133,6 +133,8 @@ ReadWithin rule kind sent =
 -- WHAT THE CLAIMS EXCLUDE
 
 pub record Refutable : Type 0 where
+  -- a number that has no line
+  pub unlisted : (rule : Rule) (n : ℕ) → Numbered (read_starts n 0 ∷ []) (fresh rule 0 1 64 8) → ⊥
   -- a number that is given to two operations
   pub renumbers : (s : State ℕ) → Numbered number_given_twice s → ⊥
   -- an operation that finishes twice

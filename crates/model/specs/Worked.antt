@@ -196,7 +196,8 @@ pub record WorkedExamples : Type 0 where
       (Call.Write figure ∷ Call.Deliver 1 ∷ Call.Read 0 ReadKind.Quick ∷ Call.Deliver 3 ∷ Call.Deliver 3 ∷ Call.Deliver 4
       ∷ Call.Deliver 4 ∷ Call.Deliver 4 ∷ Call.Deliver 4 ∷ Call.Deliver 5 ∷ Call.Deliver 5 ∷ [])
       ≡ Ok (Reply.Started 1) ∷ dones 1 (Ok (Reply.Started 2) ∷ dones 7 (Ok (Reply.Finished 2 1 figure 10 4) ∷ []))
-  -- a relay read shows the lowest reply; the next one restarts the marks, the late copy changes nothing, and it shows the write
+  -- a relay read shows the lowest reply; the next one restarts the marks and shows the write, and the late copy changes
+  -- nothing
   pub relays : (start figure : ℕ)
       → answers (count_rule 2 0) start 1 1024 256 (relays_twice figure)
       ≡ Ok (Reply.Started 1) ∷ dones 5 (
