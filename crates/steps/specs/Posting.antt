@@ -3,12 +3,8 @@ use Rattle.std.specs.Prelude.{ℕ, ◌+◌, min}
 use Rattle.model.specs.declared.journal.Operation.{Operation}
 use Rattle.model.specs.declared.messages.Message.{Message}
 use Rattle.model.specs.declared.parties.Party.{Party}
-use Rattle.model.specs.State.{Held, new_message}
+use Rattle.model.specs.State.{new_message}
 use Rattle.model.specs.Deliveries.{carried}
-
--- What a message carries.
-abbrev pub carries : {F : Type 0} → Message F → Held F
-carries m = carried m
 
 -- The same message to another receiver.
 abbrev pub sent_to : {F : Type 0} → Message F → Party → Message F

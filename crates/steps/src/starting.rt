@@ -3,13 +3,12 @@ ghost use Rattle.std.specs.Result.{result_err};
 ghost use Rattle.quorum.specs.Sets.{Rule as QuorumRule};
 ghost use Rattle.model.specs.State.{stored};
 ghost use Rattle.model.specs.Steps.{first_of, opening_phase, opening_message};
-ghost use Rattle.model.specs.Deliveries.{to_all};
+ghost use Rattle.model.specs.Deliveries.{carried, to_all};
 ghost use Rattle.model.specs.declared.calls.Call.{Call as ModelCall};
 ghost use Rattle.model.specs.declared.reader.Reader.{Reader as ReaderRow};
 ghost use Rattle.model.specs.declared.replica.Replica.{Replica as ReplicaRow};
 ghost use Rattle.model.specs.declared.marks.RelayMark.{RelayMark as MarkRow};
 ghost use Rattle.tables.specs.View.{tables, view, Kept};
-ghost use Rattle.steps.specs.Posting.{carries};
 ghost use Rattle.steps.specs.Starting.{with_one_more, opened_line, ReadClear};
 ghost use Rattle.steps.specs.Doing.{judged, Does, rest_tests, room_tests, write_tests, read_tests};
 
@@ -195,7 +194,7 @@ fn open<F: Copy>(
     requires journal_fits { numbers.old.lines < length journal.old }
     ensures numbers { numbers.new ≡ with_one_more numbers.old }
     ensures messages { messages.new ≡ stored (take numbers.old.waiting messages.old
-        ++ to_all numbers.old.replicas message.kind message.operation message.sender (carries message)) messages.old }
+        ++ to_all numbers.old.replicas message.kind message.operation message.sender (carried message)) messages.old }
     ensures journal { journal.new ≡ stored (take numbers.old.lines journal.old
         ++ opened_line numbers.old kind message ∷ []) journal.old }
 {

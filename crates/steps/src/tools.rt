@@ -1,8 +1,8 @@
 ghost use Rattle.std.specs.Prelude.{◌≡◌, ◌+◌, ◌-◌, ◌<◌, ◌≤◌, [], ◌∷◌, ◌++◌, length, take, MatchResult};
 ghost use Rattle.model.specs.State.{stored, without};
-ghost use Rattle.model.specs.Deliveries.{to_all};
+ghost use Rattle.model.specs.Deliveries.{carried, to_all};
 ghost use Rattle.model.specs.declared.answers.Refusal.{Refusal as ModelRefusal};
-ghost use Rattle.steps.specs.Posting.{sent_to, carries};
+ghost use Rattle.steps.specs.Posting.{sent_to};
 
 use model::{Message, Party, Refusal};
 use tables::Numbers;
@@ -40,7 +40,7 @@ pub fn append<A: Copy>(table: &mut [A], used: usize, item: A)
 pub fn send_all<F: Copy>(messages: &mut [Message<F>], used: usize, size: u32, message: Message<F>)
     requires { used + size ≤ length messages.old }
     ensures { messages.new ≡ stored (take used messages.old
-        ++ to_all size message.kind message.operation message.sender (carries message)) messages.old }
+        ++ to_all size message.kind message.operation message.sender (carried message)) messages.old }
 {
     // An index: nothing is known of what was written through an adapter of `iter_mut`.
     for c in 0..size {
