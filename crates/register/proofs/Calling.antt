@@ -1,5 +1,5 @@
 -- A call carries the claims, whatever the lengths of the tables are.
-use Rattle.std.proofs.Common.{◌≡◌, ℕ, true, false, Err, [], ◌∷◌, ◌++◌, length, sym, refl, ap, ◌∙◌, subst}
+use Rattle.std.proofs.Common.{◌≡◌, ℕ, true, false, Err, length, sym, refl, ap, ◌∙◌, subst}
 use Rattle.std.specs.Result.{IsErrAnd}
 use Rattle.std.proofs.lemmas.Bool.{and_parts, eqb-true, eq-eqb}
 use Rattle.std.proofs.lemmas.Result.{err_from_is_err_and}
@@ -8,20 +8,16 @@ use Rattle.quorum.specs.declared.system.QuorumSystem.{Ghosts}
 use Rattle.model.specs.declared.calls.Call.{Call}
 use Rattle.model.specs.Answers.{Answer}
 use Rattle.model.specs.declared.answers.Refusal.{Refusal}
-use Rattle.model.specs.State.{State}
 use Rattle.model.specs.Sound.{sound}
 use Rattle.model.specs.Steps.{Outcome, step}
-use Rattle.model.specs.History.{History, Grows, more}
-use Rattle.model.proofs.Serving.{serves}
 use Rattle.tables.specs.declared.numbers.Numbers.{Numbers}
 use Rattle.tables.specs.View.{Tables, view, Fitting, Kept, rule_for}
 use Rattle.steps.specs.Doing.{judged, Does, SameSizes}
-use Rattle.register.specs.Histories.{Grown, called}
+use Rattle.register.specs.Histories.{Carries}
 use Rattle.register.specs.declared.service.Register.{Register}
-use Rattle.register.specs.Calls.{fits, answered, CarriesAnswered, meaning, Plays, Checked, Declines}
-use Rattle.register.proofs.Histories.{step_sound, step_unsound}
-use Rattle.steps.proofs.Judging.{same_sizes}
-use Rattle.steps.proofs.Fronts.{stored_take}
+use Rattle.register.specs.Calls.{fits, answered, meaning, Plays, Checked, Declines}
+use Rattle.register.proofs.Histories.{step_sound, step_unsound, carries}
+use Rattle.steps.proofs.Judging.{declines}
 
 -- LENGTHS
 
@@ -80,24 +76,13 @@ module _ {F : Type 0} (rule : Rule) (start : F) (n : Numbers) (t : Tables F) whe
   declines_unsound e u c = rw e (step_unsound rule (view start n t) c u)
 
   module _ (c : Call F) (r : Answer F) (n' : Numbers) (t' : Tables F) where
-    carries_answered : SameLengths t t' → Does start (answered rule start n t c) n t r n' t' → CarriesAnswered rule start c n t r n' t'
-    carries_answered lengths d =
-        let grown : (h : History F) → Grown rule start h n t → Grown rule start (h ++ called rule start n t c ∷ []) n' t'
-        = λ h g. record {
-          fits = fitting_still d.sizes lengths g.fits;
-          grows =
-              subst (λ (s : State F). Grows rule start (h ++ called rule start n t c ∷ []) s)
-              (sym (d.state ∙ ap (λ (o : Outcome F). o.next) (answered_fitting g.fits c))) (more g.grows c);
-        } in
-        record {
-          does = d;
-          grows = grown;
-          serves = λ h g law. serves F rule law start _ _ (grown h g).grows;
-        }
+    carries_answered : SameLengths t t' → Does start (answered rule start n t c) n t r n' t'
+        → Carries rule start c (answered rule start n t c) n t r n' t'
+    carries_answered lengths d = carries rule start c _ n t r n' t' (λ f. answered_fitting f c) (fitting_still d.sizes lengths) d
 
     -- behind the check, what the call comes to on sound tables
     carries_judged : Checked rule start n t → SameLengths t t' → Does start (judged rule (view start n t) c) n t r n' t'
-        → CarriesAnswered rule start c n t r n' t'
+        → Carries rule start c (answered rule start n t c) n t r n' t'
     carries_judged checked lengths d =
         carries_answered lengths
         (subst (λ (o : Outcome F). Does start o n t r n' t')
@@ -105,16 +90,8 @@ module _ {F : Type 0} (rule : Rule) (start : F) (n : Numbers) (t : Tables F) whe
 
   -- before it, a refusal
   carries_declined : (c : Call F) (e : Refusal) → Kept n → Declines rule start n t e
-      → CarriesAnswered rule start c n t (Err e) n t
-  carries_declined c e kept declines =
-      carries_answered c (Err e) n t (same_lengths t) (rw (declines c) (record {
-        answer = refl;
-        state = refl;
-        messages = sym (stored_take n.waiting t.messages);
-        journal = sym (stored_take n.lines t.journal);
-        kept = kept;
-        sizes = same_sizes n;
-      }))
+      → Carries rule start c (answered rule start n t c) n t (Err e) n t
+  carries_declined c e kept all = carries_answered c (Err e) n t (same_lengths t) (declines start _ n t e kept (all c))
 
 -- THE REGISTER
 
@@ -127,13 +104,13 @@ module _ {R F : Type 0} {g : Ghosts R} (x : Register R F g) where
     -- where the check's refusal is handed on
     pub plays_declined : {c : Call F} (r : Answer F) (e : Refusal) → IsErrAnd r (λ y. y ≡ e)
         → Declines (meaning x) x.start x.numbers t e → Plays c x t r x t
-    plays_declined {c} r e is declines =
+    plays_declined {c} r e is all =
         let p = err_from_is_err_and r is in
         rw (p.1, p.2)
         (record {
           rule = refl;
           start = refl;
-          carries = carries_declined _ _ _ _ c e x.kept declines;
+          carries = carries_declined _ _ _ _ c e x.kept all;
         })
 
     module _ {c : Call F} {r : Answer F} {n' : Numbers} {t' : Tables F} where

@@ -1,5 +1,5 @@
 -- A register that owns its tables: they fit, they are sound, and a call leaves them so.
-use Rattle.std.proofs.Common.{◌≡◌, ℕ, ◌+◌, ◌<◌, ◌≤◌, true, List, [], ◌∷◌, ◌++◌, length, vec_items, vec_len, sym, refl, ap, ◌∙◌, subst, arith}
+use Rattle.std.proofs.Common.{◌≡◌, ℕ, ◌+◌, ◌<◌, ◌≤◌, true, List, length, vec_items, vec_len, sym, refl, ap, ◌∙◌, subst, arith}
 use Rattle.std.specs.Vec.{with_items}
 use Rattle.std.proofs.lemmas.List.{with_items_is}
 use Rattle.quorum.specs.Sets.{Rule}
@@ -15,19 +15,17 @@ use Rattle.model.specs.Answers.{Answer}
 use Rattle.model.specs.State.{State}
 use Rattle.model.specs.Sound.{sound}
 use Rattle.model.specs.Steps.{Outcome, step}
-use Rattle.model.specs.History.{History, event, Grows, more}
-use Rattle.model.proofs.Serving.{serves}
 use Rattle.model.proofs.SoundCalls.{sound_kept}
 use Rattle.tables.specs.declared.numbers.Numbers.{Numbers}
 use Rattle.register.specs.declared.service.cluster.OwnedTables.{OwnedTables}
 use Rattle.register.specs.declared.service.cluster.Cluster.{Cluster}
 use Rattle.tables.specs.View.{Tables, tables, view, Fitting, rule_for}
-use Rattle.steps.specs.Doing.{judged}
-use Rattle.steps.specs.Queueing.{window, Advances}
+use Rattle.steps.specs.Doing.{judged, Advances}
+use Rattle.steps.specs.Queueing.{window}
 use Rattle.steps.proofs.Queues.{window_long}
 use Rattle.register.specs.Owned.{owned}
 use Rattle.register.specs.Clusters.{cluster_state, cluster_rule, Steps}
-use Rattle.register.proofs.Histories.{step_sound}
+use Rattle.register.proofs.Histories.{step_sound, lengthens}
 use Rattle.register.proofs.Calling.{rule_is}
 
 -- The five lists that are lent to a call, of the messages the whole queue.
@@ -160,14 +158,10 @@ module _ {R F : Type 0} {g : Ghosts R} (x : Cluster R F g) (c : Call F) (loan : 
       → cluster_state x' ≡ after → Steps c x r x'
   steps x' same_rule same_start state =
       let e : cluster_state x' ≡ (step rule (cluster_state x) c).next = state ∙ next in
-      let longer : (h : History F) → Grows rule start h (cluster_state x)
-      → Grows rule start (h ++ event c (step rule (cluster_state x) c) ∷ []) (cluster_state x') =
-      λ h grows. subst (λ (s : State F). Grows rule start (h ++ event c (step rule (cluster_state x) c) ∷ []) s) (sym e) (more grows c) in
       record {
         rule = ap (λ (a : R). rule_of g a) same_rule;
         start = same_start;
         answer = did.answer ∙ ap (λ (o : Outcome F). o.reply) stepped;
         state = e;
-        grows = longer;
-        serves = λ h grows law. serves F rule law start _ _ (longer h grows);
+        lengthens = lengthens rule start c _ _ e;
       }

@@ -8,12 +8,12 @@ use Rattle.model.specs.declared.calls.Call.{Call}
 use Rattle.model.specs.Answers.{Answer}
 use Rattle.model.specs.State.{State}
 use Rattle.model.specs.Steps.{Outcome, step}
-use Rattle.model.specs.History.{History, Event, Run, event, run, replies}
+use Rattle.model.specs.History.{History, Event, Grows, Run, event, run, replies}
 use Rattle.model.proofs.Serving.{serves}
 use Rattle.register.specs.declared.service.Register.{Register}
 use Rattle.tables.specs.View.{Tables, view}
-use Rattle.register.specs.Histories.{Grown}
-use Rattle.register.specs.Calls.{answered, CarriesAnswered, Plays, meaning}
+use Rattle.register.specs.Histories.{Grown, Carries}
+use Rattle.register.specs.Calls.{answered, Plays, meaning}
 use Rattle.register.specs.Runs.{Ran, begun, then, history, Runs}
 use Rattle.register.proofs.Calling.{answered_fitting}
 
@@ -49,9 +49,10 @@ module _ {R F : Type 0} {g : Ghosts R} (x : Register R F g) (t : Tables F) where
       → Led (cs ++ c ∷ []) (rs ++ r ∷ []) x'' t'' h
   led_more h cs rs x' t' p c r x'' t'' plays =
       let q : Run F = run rule (view x.start x.numbers t) cs in
-      let k : CarriesAnswered rule x.start c x'.numbers t' r x''.numbers t''
-      = subst (λ (l : Rule). CarriesAnswered l x.start c x'.numbers t' r x''.numbers t'') p.same_rule
-      (subst (λ (f : F). CarriesAnswered (meaning x') f c x'.numbers t' r x''.numbers t'') p.same_start plays.carries) in
+      let Carried : Rule → F → Type 0
+      = λ l f. Carries l f c (answered l f x'.numbers t' c) x'.numbers t' r x''.numbers t'' in
+      let k : Carried rule x.start
+      = subst (λ (l : Rule). Carried l x.start) p.same_rule (subst (λ (f : F). Carried (meaning x') f) p.same_start plays.carries) in
       let o : answered rule x.start x'.numbers t' c ≡ step rule q.state c
       = answered_fitting rule x.start x'.numbers t' p.grown.fits c
       ∙ ap (λ (s : State F). step rule s c) p.state in
@@ -65,12 +66,15 @@ module _ {R F : Type 0} {g : Ghosts R} (x : Register R F g) (t : Tables F) where
             (k.does.answer ∙ ap (λ (w : Outcome F). w.reply) o)
             ∙ sym (map-append (λ (v : Event F). v.reply) q.history (event c (step rule q.state c) ∷ []))
             ∙ ap (λ (w : Run F). replies w.history) (sym e);
-        grown =
-            subst (λ (l : History F). Grown rule x.start l x''.numbers t'')
-            (append_assoc h q.history _
-            ∙ ap (λ (s : State F). h ++ (q.history ++ event c (step rule s c) ∷ [])) p.state
-            ∙ ap (λ (w : Run F). h ++ w.history) (sym e))
-            (k.grows (h ++ q.history) p.grown);
+        grown = record {
+          fits = k.fits p.grown.fits;
+          grows =
+              subst (λ (l : History F). Grows rule x.start l (view x.start x''.numbers t''))
+              (append_assoc h q.history _
+              ∙ ap (λ (s : State F). h ++ (q.history ++ event c (step rule s c) ∷ [])) p.state
+              ∙ ap (λ (w : Run F). h ++ w.history) (sym e))
+              ((k.lengthens p.grown.fits).grows (h ++ q.history) p.grown.grows);
+        };
       }
 
   led : (h : History F) → Grown rule x.start h x.numbers t → {cs : List (Call F)} {rs : List (Answer F)}

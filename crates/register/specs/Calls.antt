@@ -1,7 +1,6 @@
 -- What a call on the register comes to with these tables, and what it carries: the claims over every history that led there.
-use Rattle.std.specs.Prelude.{◌≡◌, Bool, true, cond, ◌&&◌, [], ◌∷◌, ◌++◌, length, ◌==◌}
+use Rattle.std.specs.Prelude.{◌≡◌, Bool, true, cond, ◌&&◌, length, ◌==◌}
 use Rattle.quorum.specs.Sets.{Rule}
-use Rattle.quorum.specs.Laws.{Lawful}
 use Rattle.quorum.specs.Meaning.{rule_of}
 use Rattle.quorum.specs.declared.system.QuorumSystem.{Ghosts}
 use Rattle.model.specs.declared.calls.Call.{Call}
@@ -9,13 +8,10 @@ use Rattle.model.specs.Answers.{Answer}
 use Rattle.model.specs.declared.answers.Refusal.{Refusal}
 use Rattle.model.specs.Sound.{sound}
 use Rattle.model.specs.Steps.{Outcome, declined, step}
-use Rattle.model.specs.History.{History}
-use Rattle.model.specs.Claims.{Served}
 use Rattle.tables.specs.declared.numbers.Numbers.{Numbers}
 use Rattle.register.specs.declared.service.Register.{Register}
 use Rattle.tables.specs.View.{Tables, view, Fitting}
-use Rattle.steps.specs.Doing.{Does}
-use Rattle.register.specs.Histories.{Grown, called}
+use Rattle.register.specs.Histories.{Carries}
 use Rattle.register.specs.Commissioning.{parties_fit}
 
 -- Whether the tables have the lengths that the register was commissioned with.
@@ -29,15 +25,6 @@ unfoldable pub answered : {F : Type 0} → Rule → F → Numbers → Tables F �
 answered rule start n t c =
     cond (fits n t) (step rule (view start n t) c) (declined (view start n t) Refusal.TableLength)
 
--- The answer and every place of the tables are what the call comes to; each history that led to the register becomes longer
--- by the call's event, and under a lawful rule the longer one is served.
-pub record CarriesAnswered {F : Type 0} (rule : Rule) (start : F) (c : Call F) (n : Numbers) (t : Tables F) (r : Answer F)
-    (n' : Numbers) (t' : Tables F) : Type 0 where
-  pub does : Does start (answered rule start n t c) n t r n' t'
-  pub grows : (h : History F) → Grown rule start h n t → Grown rule start (h ++ called rule start n t c ∷ []) n' t'
-  pub serves : (h : History F) → Grown rule start h n t → Lawful rule
-      → Served rule start (h ++ called rule start n t c ∷ []) (view start n' t')
-
 -- THE REGISTER
 
 -- What its rule means.
@@ -49,7 +36,7 @@ pub record Plays {R F : Type 0} {g : Ghosts R} (c : Call F) (x : Register R F g)
     (x' : Register R F g) (t' : Tables F) : Type 0 where
   pub rule : x'.rule ≡ x.rule
   pub start : x'.start ≡ x.start
-  pub carries : CarriesAnswered (meaning x) x.start c x.numbers t r x'.numbers t'
+  pub carries : Carries (meaning x) x.start c (answered (meaning x) x.start x.numbers t c) x.numbers t r x'.numbers t'
 
 -- Tables that no call is declined for.
 pub record Checked {F : Type 0} (rule : Rule) (start : F) (n : Numbers) (t : Tables F) : Type 0 where

@@ -1,5 +1,5 @@
 -- A register with its tables, as one state of the model, and what a call on it carries.
-use Rattle.std.specs.Prelude.{◌≡◌, ℕ, ◌*◌, Bool, true, false, [], ◌∷◌, ◌++◌, replicate, Ok, Err, vec_items, vec_len, Result}
+use Rattle.std.specs.Prelude.{◌≡◌, ℕ, ◌*◌, Bool, true, false, [], replicate, Ok, Err, vec_items, vec_len, Result}
 use Rattle.quorum.specs.Sets.{Rule}
 use Rattle.quorum.specs.Laws.{Lawful}
 use Rattle.quorum.specs.declared.system.QuorumSystem.{Ghosts}
@@ -7,7 +7,7 @@ use Rattle.model.specs.declared.calls.Call.{Call}
 use Rattle.model.specs.Answers.{Answer}
 use Rattle.model.specs.State.{State, fresh, new_replica, new_reader, new_mark}
 use Rattle.model.specs.Steps.{step}
-use Rattle.model.specs.History.{History, event, Grows}
+use Rattle.model.specs.History.{Grows}
 use Rattle.model.specs.Claims.{Served}
 use Rattle.register.specs.declared.service.Draft.{Draft}
 use Rattle.register.specs.declared.service.cluster.OwnedTables.{OwnedTables}
@@ -16,6 +16,7 @@ use Rattle.register.specs.declared.service.cluster.Unfounded.{Unfounded}
 use Rattle.register.specs.declared.service.cluster.UnfoundedCause.{UnfoundedCause}
 use Rattle.tables.specs.View.{Tables, view}
 use Rattle.register.specs.Owned.{owned}
+use Rattle.register.specs.Histories.{Lengthens}
 use Rattle.register.specs.Calls.{meaning}
 use Rattle.register.specs.Service.{drafted, rooms_fit}
 
@@ -60,15 +61,10 @@ Founded d message_room journal_room (Ok x) =
 Founded d message_room journal_room (Err u) =
     (rooms_fit d message_room journal_room ≡ within_limits u.cause) × (u.draft ≡ d)
 
--- A call is the model's step: its answer, and what it leaves. Each history that led to the register becomes longer by its
--- event, and under a lawful rule the longer one is served.
+-- A call is the model's step: its answer, and what it leaves. It makes each history that led to the register longer.
 pub record Steps {R F : Type 0} {g : Ghosts R} (c : Call F) (x : Cluster R F g) (r : Answer F) (x' : Cluster R F g) : Type 0 where
   pub rule : cluster_rule x' ≡ cluster_rule x
   pub start : x'.register.start ≡ x.register.start
   pub answer : r ≡ (step (cluster_rule x) (cluster_state x) c).reply
   pub state : cluster_state x' ≡ (step (cluster_rule x) (cluster_state x) c).next
-  pub grows : (h : History F) → Grows (cluster_rule x) x.register.start h (cluster_state x)
-      → Grows (cluster_rule x) x.register.start (h ++ event c (step (cluster_rule x) (cluster_state x) c) ∷ []) (cluster_state x')
-  pub serves : (h : History F) → Grows (cluster_rule x) x.register.start h (cluster_state x) → Lawful (cluster_rule x)
-      → Served (cluster_rule x) x.register.start (h ++ event c (step (cluster_rule x) (cluster_state x) c) ∷ [])
-      (cluster_state x')
+  pub lengthens : Lengthens (cluster_rule x) x.register.start c (cluster_state x) (cluster_state x')

@@ -1,7 +1,7 @@
 -- Tables of which a front part is in use.
 use Rattle.std.proofs.Common.{◌≡◌, ℕ, zero, suc, ◌+◌, ◌-◌, ◌<◌, ◌≤◌, List, [], ◌∷◌, ◌++◌, length, take, drop, set, sym, refl, ap, ◌∙◌, arith, length-append, length-drop, length-take, take-take}
 use lib.Seq.{paste}
-use Rattle.std.proofs.lemmas.List.{drop-take, drop_more, length_push, append_assoc, take-append-drop, length-take-le, set-append_right}
+use Rattle.std.proofs.lemmas.List.{drop-take, drop_more, length_push, append_assoc, length-take-le, set-append_right}
 use Rattle.model.specs.State.{stored, without}
 
 -- what is left without a place is what stands before it and behind it
@@ -52,18 +52,14 @@ stored_more front t n y e lt =
     let p : length (front ++ y ∷ []) ≡ n + 1 = length_push front y ∙ ap (λ (k : ℕ). k + 1) e in
     rw (e, p) (s ∙ ap (λ (ys : List _). front ++ ys) d ∙ sym (append_assoc front (y ∷ []) (drop (n + 1) t)))
 
--- a front that is the table's own
-pub stored_own : {A : Type 0} (used : ℕ) (t : List A) → used ≤ length t → stored (take used t) t ≡ t
-stored_own used t le = let e = length-take-le used t le in rw (e, take-append-drop)
-
--- whether or not the table is that long
-pub stored_take : {A : Type 0} (used : ℕ) (t : List A) → stored (take used t) t ≡ t
-stored_take zero t = refl
-stored_take (suc n) [] = refl
-stored_take (suc n) (x ∷ t) = ap (λ (l : List _). x ∷ l) (stored_take n t)
+-- a front that is the table's own, whether or not the table is that long
+pub stored_own : {A : Type 0} (used : ℕ) (t : List A) → stored (take used t) t ≡ t
+stored_own zero t = refl
+stored_own (suc n) [] = refl
+stored_own (suc n) (x ∷ t) = ap (λ (l : List _). x ∷ l) (stored_own n t)
 
 pub stored_push : {A : Type 0} (t : List A) (used : ℕ) (y : A) → used < length t
     → set t used y ≡ stored (take used t ++ y ∷ []) t
 stored_push t used y lt =
-    ap (λ (l : List _). set l used y) (sym (stored_own used t (omega arith)))
+    ap (λ (l : List _). set l used y) (sym (stored_own used t))
     ∙ stored_more (take used t) t used y (length-take-le used t (omega arith)) lt

@@ -66,7 +66,7 @@ module _ {F : Type 0} (start : F) (rule : Rule) (n : Numbers) (t : Tables F) (ke
   declined_as : (p : Party) (e : Refusal) → Some e ≡ verdict p → Halts p (Err e) n t
   unfolding judged tests
   declined_as p e v =
-      declines start (judged rule s (Call.Halt p)) n t e kept (omega arith) (omega arith)
+      declines start (judged rule s (Call.Halt p)) n t e kept
       (ap (λ (w : Option Refusal). settled s w (done rule s (Call.Halt p))) (sym v))
 
   done_as : (p : Party) → None ≡ verdict p → (n' : Numbers) (t' : Tables F)
@@ -78,16 +78,11 @@ module _ {F : Type 0} (start : F) (rule : Rule) (n : Numbers) (t : Tables F) (ke
       let l = ap length (messages_stay s p) in
       let fits : length (stopped s p).messages ≤ n.message_room = omega (arith, kept.room) in
       rw (sym v, le-ltb _ _ fits) (record {
-        answer = refl;
-        state = e;
+        advances = record { answer = refl; state = e; kept = k; sizes = z };
         messages =
-            em ∙ sym (stored_own n.waiting t.messages (omega (arith, kept.room)))
-            ∙ ap (λ (ms : List _). stored ms t.messages) (sym (messages_stay s p));
+            em ∙ sym (stored_own n.waiting t.messages) ∙ ap (λ (ms : List _). stored ms t.messages) (sym (messages_stay s p));
         journal =
-            ej ∙ sym (stored_own n.lines t.journal (omega (arith, kept.lines_fit)))
-            ∙ ap (λ (js : List _). stored js t.journal) (sym (journal_stays s p));
-        kept = k;
-        sizes = z;
+            ej ∙ sym (stored_own n.lines t.journal) ∙ ap (λ (js : List _). stored js t.journal) (sym (journal_stays s p));
       })
 
   stops : (p : Party) → None ≡ verdict p → Halts p (Ok Reply.Done) (numbers_stopped n p) (tables_stopped start t p)

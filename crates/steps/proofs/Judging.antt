@@ -1,5 +1,5 @@
 -- A call by its tests: the first that holds declines it, and otherwise it is done.
-use Rattle.std.proofs.Common.{◌≡◌, ◌≤◌, Bool, true, false, cond, [], ◌∷◌, ◌++◌, length, Some, None, Option, sym, refl, ap, ◌∙◌, arith, Err}
+use Rattle.std.proofs.Common.{◌≡◌, Bool, true, false, cond, [], ◌∷◌, ◌++◌, Some, None, Option, sym, refl, ap, ◌∙◌, Err}
 use Rattle.quorum.specs.Sets.{Rule}
 use Rattle.model.specs.declared.calls.Call.{Call}
 use Rattle.model.specs.declared.answers.Refusal.{Refusal}
@@ -45,13 +45,9 @@ same_sizes n = record { replicas = refl; readers = refl; message_room = refl; jo
 
 -- a declined call leaves everything as it was
 pub declines : {F : Type 0} (start : F) (o : Outcome F) (n : Numbers) (t : Tables F) (e : Refusal) → Kept n
-    → n.message_room ≤ length t.messages → n.journal_room ≤ length t.journal
     → o ≡ declined (view start n t) e → Does start o n t (Err e) n t
-declines start o n t e kept fm fj d = rw d (record {
-  answer = refl;
-  state = refl;
-  messages = sym (stored_own n.waiting t.messages (omega (arith, kept.room)));
-  journal = sym (stored_own n.lines t.journal (omega (arith, kept.lines_fit)));
-  kept = kept;
-  sizes = same_sizes n;
+declines start o n t e kept d = rw d (record {
+  advances = record { answer = refl; state = refl; kept = kept; sizes = same_sizes n };
+  messages = sym (stored_own n.waiting t.messages);
+  journal = sym (stored_own n.lines t.journal);
 })

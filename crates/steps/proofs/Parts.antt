@@ -60,8 +60,7 @@ pub does_then : {F : Type 0} {start : F} {n m l : Numbers} {t u v : Tables F} {q
     → length a.next.messages ≤ length b.next.messages → length a.next.journal ≤ length b.next.journal
     → (p : Answer F) → p ≡ o.reply → b.next ≡ o.next → Does start o n t p l v
 does_then {F} {start} {n} {m} {l} {t} {u} {v} a b o first then more_messages more_lines p reply next = record {
-  answer = reply;
-  state = then.state ∙ next;
+  advances = record { answer = reply; state = then.state ∙ next; kept = then.kept; sizes = sizes_then first.sizes then.sizes };
   messages =
       then.messages ∙ ap (λ (x : List (Message F)). stored b.next.messages x) first.messages
       ∙ stored_stored a.next.messages b.next.messages t.messages more_messages
@@ -70,8 +69,6 @@ does_then {F} {start} {n} {m} {l} {t} {u} {v} a b o first then more_messages mor
       then.journal ∙ ap (λ (x : List (Operation F)). stored b.next.journal x) first.journal
       ∙ stored_stored a.next.journal b.next.journal t.journal more_lines
       ∙ ap (λ (s : State F). stored s.journal t.journal) next;
-  kept = then.kept;
-  sizes = sizes_then first.sizes then.sizes;
 }
 
 -- WHAT FINISHES AND WHAT IS SENT
@@ -93,9 +90,6 @@ module _ {F : Type 0} (start : F) (n : Numbers) (t : Tables F) (kept : Kept n)
     (fm : length t.messages ≡ n.message_room) (fj : length t.journal ≡ n.journal_room) where
   abbrev s : State F
   s = view start n t
-
-  messages_own : t.messages ≡ stored (take n.waiting t.messages) t.messages
-  messages_own = sym (stored_own n.waiting t.messages (omega (arith, kept.room)))
 
   lines_fit : n.lines ≤ length t.journal
   lines_fit = omega (arith, kept.lines_fit)
@@ -135,16 +129,18 @@ module _ {F : Type 0} (start : F) (n : Numbers) (t : Tables F) (kept : Kept n)
         (Ok (Reply.Finished f.operation f.stamp f.figure row.sent f.exchanges)) (with_finished n (one_more n.finished))
         (tables t.replicas t.readers t.marks t.messages (set t.journal (f.operation - 1) (ends row n.lines)))
     ends_some = record {
-      answer = ap (λ (x : Operation F). Ok (Reply.Finished f.operation f.stamp f.figure x.sent f.exchanges)) (sym found);
-      state =
-          ap (λ (js : List (Operation F)). with_journal s js (one_more n.finished))
-          (ap (λ (js : List (Operation F)). take n.lines js) written
-          ∙ take_stored front t.journal n.lines
-          (length-set (take n.lines t.journal) (pred f.operation) _ ∙ lines_are));
-      messages = messages_own;
+      advances = record {
+        answer = ap (λ (x : Operation F). Ok (Reply.Finished f.operation f.stamp f.figure x.sent f.exchanges)) (sym found);
+        state =
+            ap (λ (js : List (Operation F)). with_journal s js (one_more n.finished))
+            (ap (λ (js : List (Operation F)). take n.lines js) written
+            ∙ take_stored front t.journal n.lines
+            (length-set (take n.lines t.journal) (pred f.operation) _ ∙ lines_are));
+        kept = kept_finished n kept (one_more n.finished);
+        sizes = record { replicas = refl; readers = refl; message_room = refl; journal_room = refl };
+      };
+      messages = sym (stored_own n.waiting t.messages);
       journal = written;
-      kept = kept_finished n kept (one_more n.finished);
-      sizes = record { replicas = refl; readers = refl; message_room = refl; journal_room = refl };
     }
 
   module _ (l : List (Message F)) (room : n.waiting + length l ≤ n.message_room) where
@@ -165,26 +161,17 @@ module _ {F : Type 0} (start : F) (n : Numbers) (t : Tables F) (kept : Kept n)
     pub sends : Does start (sending_all s l) n t (Ok Reply.Done) (with_waiting n (n.waiting + length l))
         (tables t.replicas t.readers t.marks (stored more_wait t.messages) (stored tallied t.journal))
     sends = record {
-      answer = refl;
-      state =
-          ap₂ (λ (ms : List (Message F)) (js : List (Operation F)). record {
-            start = start;
-            message_room = n.message_room;
-            journal_room = n.journal_room;
-            writer = n.writer;
-            replicas = t.replicas;
-            readers = t.readers;
-            marks = t.marks;
-            messages = ms;
-            journal = js;
-            finished = n.finished;
-          })
-          (take_stored more_wait t.messages (n.waiting + length l) wait_are)
-          (take_stored tallied t.journal n.lines tallied_are);
+      advances = record {
+        answer = refl;
+        state =
+            ap₂ (λ (ms : List (Message F)) (js : List (Operation F)). record s { messages = ms; journal = js })
+            (take_stored more_wait t.messages (n.waiting + length l) wait_are)
+            (take_stored tallied t.journal n.lines tallied_are);
+        kept = kept_waiting n kept (n.waiting + length l) room;
+        sizes = record { replicas = refl; readers = refl; message_room = refl; journal_room = refl };
+      };
       messages = refl;
       journal = refl;
-      kept = kept_waiting n kept (n.waiting + length l) room;
-      sizes = record { replicas = refl; readers = refl; message_room = refl; journal_room = refl };
     }
 
 -- Messages of one operation are counted at once.
@@ -292,12 +279,14 @@ module _ {F : Type 0} (start : F) (n : Numbers) (t : Tables F) (kept : Kept n)
 
   changes : Does start record_change n t (Ok Reply.Done) n₁ t₁
   changes = record {
-    answer = refl;
-    state = refl;
-    messages = sym (stored_own n.waiting t.messages (omega (arith, kept.room)));
-    journal = sym (stored_own n.lines t.journal (omega (arith, kept.lines_fit)));
-    kept = kept_writer n kept r.writer same;
-    sizes = record { replicas = refl; readers = refl; message_room = refl; journal_room = refl };
+    advances = record {
+      answer = refl;
+      state = refl;
+      kept = kept_writer n kept r.writer same;
+      sizes = record { replicas = refl; readers = refl; message_room = refl; journal_room = refl };
+    };
+    messages = sym (stored_own n.waiting t.messages);
+    journal = sym (stored_own n.lines t.journal);
   }
 
   pub applies : (w : Writer) → w ≡ writer_changed n.writer r.writer → (q : Answer F) (n₂ : Numbers) (t₂ : Tables F)

@@ -16,7 +16,8 @@ use Rattle.model.specs.Steps.{tests, first_of, overfull, done, read, opening_pha
 use Rattle.tables.specs.declared.numbers.Numbers.{Numbers}
 use Rattle.tables.specs.View.{Tables, tables, view, Kept}
 use Rattle.steps.specs.Starting.{started, opened_line}
-use Rattle.steps.specs.Doing.{judged, Does, read_tests}
+use Rattle.steps.specs.Doing.{judged, Does}
+use Rattle.steps.specs.Refusing.{read_tests}
 use Rattle.steps.proofs.Judging.{ruled, judged_by, declines}
 use Rattle.steps.proofs.Starts.{lines_are, more_wait, request, starts}
 
@@ -42,7 +43,7 @@ module _ {F : Type 0} (start : F) (rule : Rule) (n : Numbers) (t : Tables F) (ke
 
   pub read_declined : (e : Refusal) → Some e ≡ first_of (read_tests start n t.readers r)
       → Does start (judged rule s (Call.Read r kind)) n t (Err e) n t
-  read_declined e v = declines start _ n t e kept (omega arith) (omega arith) (verdict (Some e) v)
+  read_declined e v = declines start _ n t e kept (verdict (Some e) v)
 
   -- the start of a read under a stamp and a number
   abbrev shown_at : Stamp → Held F

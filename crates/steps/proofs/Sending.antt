@@ -1,5 +1,5 @@
 -- Messages to every replica.
-use Rattle.std.proofs.Common.{◌≡◌, ℕ, zero, suc, ◌+◌, ◌<◌, ◌≤◌, List, [], ◌∷◌, ◌++◌, length, take, set, sym, refl, ap, ◌∙◌, add-one, arith, length-append, length-take}
+use Rattle.std.proofs.Common.{◌≡◌, ℕ, zero, suc, ◌+◌, ◌<◌, List, [], ◌∷◌, ◌++◌, length, take, set, sym, refl, ap, ◌∙◌, add-one, arith, length-append, length-take}
 use Rattle.std.proofs.lemmas.List.{length_push, append_assoc, append-nil}
 use Rattle.model.specs.declared.messages.Message.{Message}
 use Rattle.model.specs.declared.messages.MessageKind.{MessageKind}
@@ -19,9 +19,9 @@ module _ {F : Type 0} (kind : MessageKind) (n : ℕ) (from : Party) (x : Held F)
   to_all_more c = ap (λ (k : ℕ). to_all k kind n from x) (add-one c)
 
   module _ (used : ℕ) (t : List (Message F)) where
-    pub sends_none : used ≤ length t → t ≡ stored (take used t ++ to_all 0 kind n from x) t
+    pub sends_none : t ≡ stored (take used t ++ to_all 0 kind n from x) t
     unfolding to_all
-    sends_none le = sym (ap (λ (l : List _). stored l t) (append-nil (take used t)) ∙ stored_own used t le)
+    sends_none = sym (ap (λ (l : List _). stored l t) (append-nil (take used t)) ∙ stored_own used t)
 
     pub sends_more : (c : ℕ) → used + c < length t
         → set (stored (take used t ++ to_all c kind n from x) t) (used + c) (new_message kind n from (Party.Replica c) x)

@@ -111,23 +111,25 @@ module _ {F : Type 0} (start : F) (rule : Rule) (n : Numbers) (t : Tables F) (ke
         let front = take_stored messages_now t.messages (n.waiting + n.replicas) messages_long in
         let lines = take_stored lines_now t.journal (n.lines + 1) lines_long in
         record {
-          answer = ap (λ (i : ℕ). Ok (Reply.Started i)) answer;
-          state =
-              ap₂ (λ (ms : List (Message F)) (js : List (Operation F)).
-              with_tables s w t.replicas ds t.marks ms js n.finished)
-              (front ∙ sym messages_same) (lines ∙ sym counts);
+          advances = record {
+            answer = ap (λ (i : ℕ). Ok (Reply.Started i)) answer;
+            state =
+                ap₂ (λ (ms : List (Message F)) (js : List (Operation F)).
+                with_tables s w t.replicas ds t.marks ms js n.finished)
+                (front ∙ sym messages_same) (lines ∙ sym counts);
+            kept = record {
+              some_replica = kept.some_replica;
+              few_replicas = kept.few_replicas;
+              some_reader = kept.some_reader;
+              few_readers = kept.few_readers;
+              room = room;
+              few_messages = kept.few_messages;
+              lines_fit = omega arith;
+              few_lines = kept.few_lines;
+              stamps = stamp;
+            };
+            sizes = record { replicas = refl; readers = refl; message_room = refl; journal_room = refl };
+          };
           messages = ap (λ (ms : List (Message F)). stored ms t.messages) (sym messages_same);
           journal = ap (λ (js : List (Operation F)). stored js t.journal) (sym counts);
-          kept = record {
-            some_replica = kept.some_replica;
-            few_replicas = kept.few_replicas;
-            some_reader = kept.some_reader;
-            few_readers = kept.few_readers;
-            room = room;
-            few_messages = kept.few_messages;
-            lines_fit = omega arith;
-            few_lines = kept.few_lines;
-            stamps = stamp;
-          };
-          sizes = record { replicas = refl; readers = refl; message_room = refl; journal_room = refl };
         }

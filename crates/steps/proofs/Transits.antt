@@ -39,14 +39,20 @@ module _ {F : Type 0} (start : F) (rule : Rule) (n : Numbers) (t : Tables F) (ke
   waiting_is : length (take n.waiting t.messages) ≡ n.waiting
   waiting_is = length-take-le n.waiting t.messages (omega (arith, kept.room))
 
-  -- the register after the waiting messages have become others
-  view_waiting : (w : ℕ) (front : List (Message F)) → length front ≡ w
-      → view start (with_waiting n w) (tables t.replicas t.readers t.marks (stored front t.messages) t.journal)
-      ≡ with_messages s front
-  view_waiting w front e = ap (λ (ms : List (Message F)). with_messages s ms) (take_stored front t.messages w e)
-
-  journal_own : t.journal ≡ stored (take n.lines t.journal) t.journal
-  journal_own = sym (stored_own n.lines t.journal (omega (arith, kept.lines_fit)))
+  -- only the waiting messages have become others
+  others_wait : (taken : List (Message F)) (w : ℕ) (front : List (Message F)) → length front ≡ w → w ≤ n.message_room
+      → Does start (record { reply = Ok Reply.Done; taken = taken; sent = []; next = with_messages s front }) n t (Ok Reply.Done)
+      (with_waiting n w) (tables t.replicas t.readers t.marks (stored front t.messages) t.journal)
+  others_wait taken w front e room = record {
+    advances = record {
+      answer = refl;
+      state = ap (λ (ms : List (Message F)). with_messages s ms) (take_stored front t.messages w e);
+      kept = kept_waiting n kept w room;
+      sizes = record { replicas = refl; readers = refl; message_room = refl; journal_room = refl };
+    };
+    messages = refl;
+    journal = sym (stored_own n.lines t.journal);
+  }
 
   module _ (place : ℕ) where
     abbrev gone : List (Message F)
@@ -58,7 +64,7 @@ module _ {F : Type 0} (start : F) (rule : Rule) (n : Numbers) (t : Tables F) (ke
     drop_declined le =
         let w = waiting_is in
         let l : length (take n.waiting t.messages) ≤ place = omega arith in
-        declines start _ n t Refusal.NoMessage kept (omega arith) (omega arith)
+        declines start _ n t Refusal.NoMessage kept
         (judged_by rule s (Call.Drop place) _ (Some Refusal.NoMessage) refl (rw (le-leb _ _ l)))
 
     gone_long : place < n.waiting → length gone ≡ n.waiting - 1
@@ -72,14 +78,7 @@ module _ {F : Type 0} (start : F) (rule : Rule) (n : Numbers) (t : Tables F) (ke
         → Does start (dropped s place) n t (Ok Reply.Done) (with_waiting n (n.waiting - 1))
         (tables t.replicas t.readers t.marks (stored gone t.messages) t.journal)
     unfolding dropped
-    taken_out lt = record {
-      answer = refl;
-      state = view_waiting (n.waiting - 1) gone (gone_long lt);
-      messages = refl;
-      journal = journal_own;
-      kept = kept_waiting n kept (n.waiting - 1) (omega (arith, kept.room));
-      sizes = record { replicas = refl; readers = refl; message_room = refl; journal_room = refl };
-    }
+    taken_out lt = others_wait _ (n.waiting - 1) gone (gone_long lt) (omega (arith, kept.room))
 
     pub drop_done : place < n.waiting
         → Does start (judged rule s (Call.Drop place)) n t (Ok Reply.Done) (with_waiting n (n.waiting - 1))
@@ -99,7 +98,7 @@ module _ {F : Type 0} (start : F) (rule : Rule) (n : Numbers) (t : Tables F) (ke
     duplicate_absent le =
         let w = waiting_is in
         let l : length (take n.waiting t.messages) ≤ place = omega arith in
-        declines start _ n t Refusal.NoMessage kept (omega arith) (omega arith)
+        declines start _ n t Refusal.NoMessage kept
         (judged_by rule s (Call.Duplicate place) _ (Some Refusal.NoMessage) refl (rw (le-leb _ _ l)))
 
     abbrev copied : Message F → List (Message F)
@@ -116,7 +115,7 @@ module _ {F : Type 0} (start : F) (rule : Rule) (n : Numbers) (t : Tables F) (ke
         let l : place < length (take n.waiting t.messages) = omega arith in
         let c = copied_long (message s place) in
         let over : n.message_room < length (copied (message s place)) = omega arith in
-        declines start _ n t Refusal.NoRoom kept (omega arith) (omega arith)
+        declines start _ n t Refusal.NoRoom kept
         (judged_by rule s (Call.Duplicate place) _ (Some Refusal.NoRoom) refl (rw (lt-leb _ _ l, lt-ltb _ _ over)))
 
     pub duplicate_done : place < n.waiting → n.waiting < n.message_room → (m : Message F) → m ≡ get_or t.messages place m
@@ -131,11 +130,4 @@ module _ {F : Type 0} (start : F) (rule : Rule) (n : Numbers) (t : Tables F) (ke
         let found : message s place ≡ m = get_or-take n.waiting t.messages place (no_message start) lt ∙ sym (get_or_read t.messages place m (omega arith) is (no_message start)) in
         rw (judged_by rule s (Call.Duplicate place) _ None refl (rw (lt-leb _ _ l, le-ltb _ _ fits)))
         (subst (λ (x : Message F). Does start (done rule s (Call.Duplicate place)) n t (Ok Reply.Done) (with_waiting n (n.waiting + 1))
-        (tables t.replicas t.readers t.marks (stored (copied x) t.messages) t.journal)) found (record {
-          answer = refl;
-          state = view_waiting (n.waiting + 1) (copied (message s place)) c;
-          messages = refl;
-          journal = journal_own;
-          kept = kept_waiting n kept (n.waiting + 1) (omega arith);
-          sizes = record { replicas = refl; readers = refl; message_room = refl; journal_room = refl };
-        }))
+        (tables t.replicas t.readers t.marks (stored (copied x) t.messages) t.journal)) found (others_wait _ (n.waiting + 1) (copied (message s place)) c (omega arith)))

@@ -15,7 +15,8 @@ use Rattle.model.specs.Steps.{tests, first_of, overfull, done, write, to_write}
 use Rattle.tables.specs.declared.numbers.Numbers.{Numbers}
 use Rattle.tables.specs.View.{Tables, tables, view, Kept}
 use Rattle.steps.specs.Starting.{started, opened_line}
-use Rattle.steps.specs.Doing.{judged, Does, write_tests}
+use Rattle.steps.specs.Doing.{judged, Does}
+use Rattle.steps.specs.Refusing.{write_tests}
 use Rattle.steps.proofs.Judging.{ruled, judged_by, declines}
 use Rattle.steps.proofs.Starts.{lines_are, more_wait, request, starts}
 
@@ -41,7 +42,7 @@ module _ {F : Type 0} (start : F) (rule : Rule) (n : Numbers) (t : Tables F) (ke
 
   pub write_declined : (e : Refusal) → Some e ≡ first_of (write_tests n)
       → Does start (judged rule s (Call.Write figure)) n t (Err e) n t
-  write_declined e v = declines start _ n t e kept (omega arith) (omega arith) (verdict (Some e) v)
+  write_declined e v = declines start _ n t e kept (verdict (Some e) v)
 
   -- the writer, and what it writes, under a stamp and a number
   abbrev writer_at : Stamp → ℕ → Writer

@@ -8,7 +8,8 @@ ghost use Rattle.model.specs.declared.marks.RelayMark.{RelayMark as MarkRow};
 ghost use Rattle.model.specs.declared.messages.Message.{Message as MessageRow};
 ghost use Rattle.model.specs.declared.journal.Operation.{Operation as JournalRow};
 ghost use Rattle.tables.specs.View.{tables, view, Kept};
-ghost use Rattle.steps.specs.Doing.{judged, Does, again_test, stop_tests};
+ghost use Rattle.steps.specs.Doing.{judged, Does};
+ghost use Rattle.steps.specs.Refusing.{again_test, stop_tests};
 
 use model::{Party, Reader, Refusal, Replica, Reply, Writer};
 use tables::Numbers;

@@ -2,9 +2,9 @@ ghost use Rattle.std.specs.Prelude.{◌≡◌, ◌+◌, ◌<◌, ◌≤◌, true
 ghost use Rattle.model.specs.Sound.{sound as is_sound};
 ghost use Rattle.model.specs.declared.calls.Call.{Call as ModelCall};
 ghost use Rattle.tables.specs.View.{tables, view, Kept, Fitting, rule_for};
-ghost use Rattle.steps.specs.Doing.{judged};
+ghost use Rattle.steps.specs.Doing.{judged, Advances};
 ghost use Rattle.steps.specs.Planning.{Plan};
-ghost use Rattle.steps.specs.Queueing.{window, Advances};
+ghost use Rattle.steps.specs.Queueing.{window};
 
 use crate::delivering::{apply, plan_delivery};
 use crate::queue::take_out;

@@ -10,7 +10,8 @@ ghost use Rattle.model.specs.declared.replica.Replica.{Replica as ReplicaRow};
 ghost use Rattle.model.specs.declared.marks.RelayMark.{RelayMark as MarkRow};
 ghost use Rattle.tables.specs.View.{tables, view, Kept};
 ghost use Rattle.steps.specs.Starting.{with_one_more, opened_line, ReadClear};
-ghost use Rattle.steps.specs.Doing.{judged, Does, rest_tests, room_tests, write_tests, read_tests};
+ghost use Rattle.steps.specs.Doing.{judged, Does};
+ghost use Rattle.steps.specs.Refusing.{rest_tests, room_tests, write_tests, read_tests};
 
 use crate::tools::{append, send_all};
 use model::{

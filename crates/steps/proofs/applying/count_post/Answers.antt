@@ -10,7 +10,7 @@ use Rattle.steps.proofs.applying.count_post.Goals as goal
 pub returns-in-Nothing : goal.returns-in-Nothing
 unfolding counted
 returns-in-Nothing g c = λ start.
-    rw c.in-Nothing.is (sym (stored_own c.args.lines c.args.journal.now c.requires.fits))
+    rw c.in-Nothing.is (sym (stored_own c.args.lines c.args.journal.now))
 
 pub returns-in-One : goal.returns-in-One
 returns-in-One g c = λ start.

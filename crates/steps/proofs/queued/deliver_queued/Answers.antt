@@ -4,7 +4,7 @@ use Rattle.model.specs.State.{with_messages}
 use Rattle.tables.specs.View.{tables, view}
 use Rattle.steps.specs.Renumbered.{with_waiting}
 use Rattle.steps.specs.Queueing.{window}
-use Rattle.steps.proofs.Delivers.{delivered_answer, delivered_state}
+use Rattle.steps.proofs.Delivers.{delivered}
 use Rattle.steps.proofs.Queues.{window_back, window_gone, part_long}
 use Rattle.steps.proofs.queued.deliver_queued.Goals as goal
 
@@ -29,9 +29,5 @@ returns-clause-advances g c =
     let gone = ap (λ (ms : List _). with_messages (view start n t) ms)
     (window_gone c.args.buffer.now buffer c.args.head.now head room room n.waiting c.args.place refl c.requires.kept.room c.take_out.ensures.gone) in
     rw (window_back head room (head + room - head) buffer c.apply.new.messages (omega (arith, within)) (c.apply.auto.messages ∙ part_long buffer head room within))
-    (record {
-      answer = delivered_answer _ start n t c.args.place c.in_ok-reaction.reaction c.in_ok-reaction.ensures n₁ t₁ gone _ _ _ does;
-      state = delivered_state _ start n t c.args.place c.in_ok-reaction.reaction c.in_ok-reaction.ensures n₁ t₁ gone _ _ _ does;
-      kept = does.kept;
-      sizes = record { replicas = does.sizes.replicas; readers = does.sizes.readers; message_room = does.sizes.message_room; journal_room = does.sizes.journal_room };
-    })
+    (delivered _ start n t c.args.place c.in_ok-reaction.reaction c.in_ok-reaction.ensures n₁ t₁ gone _ _ _ does
+    (record { replicas = refl; readers = refl; message_room = refl; journal_room = refl }))

@@ -1,6 +1,5 @@
-use Rattle.std.proofs.Common.{◌≡◌, ◌+◌, ◌-◌, ◌≤◌, List, length, ap, ◌∙◌, arith, rules}
+use Rattle.std.proofs.Common.{◌≡◌, ◌+◌, ◌-◌, ◌≤◌, length, ◌∙◌, arith, rules}
 use borrow.Author.Rules.{scaled_fits≤}
-use Rattle.tables.specs.View.{tables, view}
 use Rattle.steps.proofs.Queues.{window_back, part_long}
 use Rattle.steps.proofs.queued.step_queued.Goals as goal
 
@@ -19,12 +18,5 @@ returns-in_default g c =
     let back = window_back head room (head + room - head) c.args.buffer.now c.step.new.messages (omega (arith, c.requires.within)) (c.step.auto.messages ∙ part_long c.args.buffer.now head room c.requires.within) in
     record {
       within = c.requires.within;
-      advances = record {
-        answer = does.answer;
-        state =
-            ap (λ (ms : List _). view c.args.start c.step.new.numbers (tables c.step.new.replicas c.step.new.readers c.step.new.marks ms c.step.new.journal)) back
-            ∙ does.state;
-        kept = does.kept;
-        sizes = does.sizes;
-      };
+      advances = rw back does.advances;
     }

@@ -6,7 +6,7 @@ use Rattle.steps.proofs.tools.send_all.Goals as goal
 pub loop-c-init : goal.loop-c-init
 loop-c-init g c =
     let m = c.args.message in
-    sends_none m.kind m.operation m.sender (carried m) c.args.used c.args.messages.now (omega arith)
+    sends_none m.kind m.operation m.sender (carried m) c.args.used c.args.messages.now
 
 pub loop-c-preserved : goal.loop-c-preserved
 loop-c-preserved g c =
