@@ -25,7 +25,7 @@ use Rattle.reaction.specs.declared.reaction.Post.{Post}
 use Rattle.reaction.specs.declared.reaction.Reaction.{Reaction}
 use Rattle.reaction.specs.declared.reaction.Move.{Move}
 use Rattle.reaction.specs.Reactions.{nothing, at_replica, at_writer, finish_with, move_in, next_move}
-use Rattle.reaction.specs.Reactions.{holding, offered, answer_to, noted, after_mark, to_mark, replica_reaction, raised, lowers}
+use Rattle.reaction.specs.Reactions.{holding, offered, answer_to, after_mark, to_mark, replica_reaction, raised, lowers}
 use Rattle.reaction.specs.Reactions.{hears, moved, after_heard, counts, reader_reaction}
 use Rattle.reaction.specs.Reactions.{writer_reaction, reaction}
 use Rattle.reaction.specs.Applied.{applied}
@@ -171,10 +171,10 @@ module _ {F : Type 0} (rule : Rule) (s : State F) where
             splits come (rule.round (bits k.relayers) && not k.replied) _ _ _ _ (λ _. answers) (λ _. waits)
 
       relay_reacts : on_relay rule s (sent MessageKind.Relay (Party.Replica c)) ≡ come (reacting MessageKind.Relay)
-      unfolding on_relay marked
+      unfolding on_relay
       relay_reacts =
           splits come (ltb n (mark s c (index (line s n).owner)).operation) _ _ _ _ (λ _. ends new_mark)
-          (λ _. after (noted (mark s c (index (line s n).owner)) n (index from)))
+          (λ _. after (marked (mark s c (index (line s n).owner)) n (index from)))
           ∙ ap (λ x. come (to_mark rule.round c x (line s n).owner (sent MessageKind.Relay (Party.Replica c))
           (mark_place s c (index (line s n).owner)) (mark s c (index (line s n).owner))))
           (took_offered (replica s c) (sent MessageKind.Relay (Party.Replica c)))

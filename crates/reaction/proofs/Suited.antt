@@ -12,12 +12,12 @@ use Rattle.model.specs.declared.replica.Replica.{Replica}
 use Rattle.model.specs.declared.journal.Operation.{Operation}
 use Rattle.model.specs.declared.messages.Message.{Message}
 use Rattle.model.specs.State.{State, index, new_mark, reader, replica, line}
-use Rattle.model.specs.Records.{acknowledged}
+use Rattle.model.specs.Records.{acknowledged, marked}
 use Rattle.tables.specs.declared.numbers.Numbers.{Numbers}
 use Rattle.reaction.specs.declared.reaction.Reaction.{Reaction}
 use Rattle.reaction.specs.declared.reaction.Move.{Move}
 use Rattle.reaction.specs.Reactions.{nothing, counts, hears, lowers, after_message, next_move, moved, after_heard, to_reader, to_writer}
-use Rattle.reaction.specs.Reactions.{noted, outdated, offered, after_mark, to_mark, replica_reaction, reaction_of, reaction}
+use Rattle.reaction.specs.Reactions.{outdated, offered, after_mark, to_mark, replica_reaction, reaction_of, reaction}
 use Rattle.reaction.specs.Applied.{HasLine, Applicable}
 
 module _ {F : Type 0} (n : Numbers) (m : Message F) (there : HasLine n.lines m.operation) where
@@ -84,7 +84,7 @@ module _ {F : Type 0} (n : Numbers) (m : Message F) (there : HasLine n.lines m.o
       → Apt (to_mark round c x owner m place k)
   mark_apt round c x owner place k =
       cond_both (outdated k m.operation) _ _ Apt (λ _. record { finish = tt; post = tt; writer = tt })
-      (λ _. reply_apt round c x owner place (noted k m.operation (index m.sender)))
+      (λ _. reply_apt round c x owner place (marked k m.operation (index m.sender)))
 
   replica_apt : (round : Family) (start : F) (c : ℕ) (x : Replica F) (owner : Party) (width : ℕ) (marks : _)
       (kind : MessageKind) → Apt (replica_reaction round start c x owner width marks m kind)

@@ -14,7 +14,7 @@ use Rattle.model.specs.declared.marks.RelayMark.{RelayMark}
 use Rattle.model.specs.declared.messages.Message.{Message}
 use Rattle.model.specs.declared.journal.Operation.{Operation}
 use Rattle.model.specs.State.{State, Held, index, unused, new_message, new_mark, replica, reader, line}
-use Rattle.model.specs.Records.{acknowledged, writer_freed, best, replied_by, confirmed, placing, reader_freed, mark_replied}
+use Rattle.model.specs.Records.{acknowledged, writer_freed, best, replied_by, confirmed, placing, reader_freed, marked, mark_replied}
 use Rattle.model.specs.Deliveries.{carried, in_first, in_second, in_relay, is_quick}
 use Rattle.model.specs.Sound.{addressed, recorded}
 use Rattle.tables.specs.declared.numbers.Numbers.{Numbers}
@@ -70,13 +70,6 @@ answer_to owner m kind x = Post.One (new_message kind m.operation m.receiver own
 abbrev pub outdated : RelayMark → ℕ → Bool
 outdated k n = nat_lt n k.operation
 
--- The mark after replica c relayed for operation n.
-abbrev pub noted : RelayMark → ℕ → ℕ → RelayMark
-noted k n c =
-    cond (nat_lt k.operation n)
-    (record { operation = n; relayers = joined 0 c; replied = false })
-    (record { operation = k.operation; relayers = joined k.relayers c; replied = k.replied })
-
 -- Replica c, now x, has the mark k at this place.
 abbrev pub after_mark : {F : Type 0} → Family → ℕ → Replica F → Party → Message F → ℕ → RelayMark → Reaction F
 after_mark round c x owner m place k =
@@ -87,7 +80,7 @@ after_mark round c x owner m place k =
 abbrev pub to_mark : {F : Type 0} → Family → ℕ → Replica F → Party → Message F → ℕ → RelayMark → Reaction F
 to_mark round c x owner m place k =
     cond (outdated k m.operation) (at_replica c x None Post.Nothing)
-    (after_mark round c x owner m place (noted k m.operation (index m.sender)))
+    (after_mark round c x owner m place (marked k m.operation (index m.sender)))
 
 -- Replica c is x; the operation's owner is this, and each replica has so many marks.
 abbrev pub replica_reaction : {F : Type 0} → Family → F → ℕ → Replica F → Party → ℕ → List RelayMark → Message F

@@ -1,6 +1,7 @@
 ghost use Rattle.std.specs.Prelude.{◌≡◌, ◌+◌, ◌*◌, ◌<◌, ◌≤◌, not, length, if◌then◌else◌};
 ghost use Rattle.model.specs.State.{index as index_of};
-ghost use Rattle.reaction.specs.Reactions.{noted, offered as after_offer, outdated, to_mark, to_replica};
+ghost use Rattle.model.specs.Records.{marked};
+ghost use Rattle.reaction.specs.Reactions.{offered as after_offer, outdated, to_mark, to_replica};
 
 use crate::reaction::{Post, Reaction, answer, bare_answer};
 use model::{Message, MessageKind, Party, RelayMark, Replica};
@@ -25,10 +26,11 @@ pub fn offered<F: Copy>(replica: Replica<F>, message: &Message<F>) -> Replica<F>
 ///
 /// A higher operation restarts the mark.
 // The same form as `acknowledge` and `hear`: an `Option` of the new mark would be taken apart at once by the one caller.
+#[tactic(auto, unfolding(model::specs::Records::marked))]
 pub fn relayed(mark: &mut RelayMark, operation: u16, sender: u32) -> bool
     requires { sender < 32 }
     ensures counted { result ≡ not (outdated mark.old operation) }
-    ensures changed { mark.new ≡ (if result then noted mark.old operation sender else mark.old) }
+    ensures changed { mark.new ≡ (if result then marked mark.old operation sender else mark.old) }
 {
     if operation < mark.operation {
         return false;

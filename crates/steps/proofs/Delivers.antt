@@ -1,6 +1,6 @@
 -- A message of sound tables is delivered as the model says.
 use Rattle.std.proofs.Common.{◌≡◌, ℕ, ◌+◌, ◌-◌, ◌<◌, ◌≤◌, true, List, [], ◌++◌, length, get_or, take, Some, None, sym, refl, ap, ◌∙◌, subst, arith, length-append, get_or-take, Ok}
-use Rattle.std.proofs.lemmas.List.{length-take-le, get_or_read}
+use Rattle.std.proofs.lemmas.List.{get_or_read}
 use Rattle.std.proofs.lemmas.Bool.{le-leb, lt-leb, le-ltb, lt-ltb}
 use Rattle.quorum.specs.Sets.{Rule}
 use Rattle.model.specs.declared.messages.Message.{Message}
@@ -24,7 +24,8 @@ use Rattle.steps.proofs.Judging.{judged_by}
 use Rattle.reaction.proofs.Deliverables.{line_there, within_front}
 use Rattle.reaction.proofs.Arrivals.{deliverable, delivers}
 use Rattle.reaction.proofs.Suited.{applicable}
-use Rattle.steps.proofs.Parts.{applied_messages, applied_lines, sizes_then, does_then}
+use Rattle.steps.proofs.Parts.{applied_messages, applied_lines, does_then}
+use Rattle.steps.proofs.Renumbered.{sizes_then, waiting_is}
 use Rattle.model.specs.Answers.{Answer}
 
 -- THE MESSAGES after a reaction to the one at a place
@@ -36,7 +37,7 @@ module _ {F : Type 0} (rule : Rule) (start : F) (n : Numbers) (t : Tables F) (ke
 
   gone_is : length gone ≡ n.waiting - 1
   gone_is =
-      let w = length-take-le n.waiting t.messages (omega (arith, kept.room, fit.messages)) in
+      let w = waiting_is n t kept fit.messages in
       let d = length_without (take n.waiting t.messages) place (omega (arith, w)) in
       omega (arith, d, w)
 
@@ -56,18 +57,15 @@ module _ {F : Type 0} (rule : Rule) (start : F) (n : Numbers) (t : Tables F) (ke
   abbrev s : State F
   s = view start n t
 
-  waiting_is : length (take n.waiting t.messages) ≡ n.waiting
-  waiting_is = length-take-le n.waiting t.messages (omega (arith, kept.room, fit.messages))
-
   pub absent : n.waiting ≤ place → judged rule s (Call.Deliver place) ≡ declined s Refusal.NoMessage
   unfolding tests
   absent le =
-      let l : length (take n.waiting t.messages) ≤ place = omega (arith, waiting_is) in
+      let l : length (take n.waiting t.messages) ≤ place = omega (arith, waiting_is n t kept fit.messages) in
       judged_by rule s (Call.Deliver place) _ (Some Refusal.NoMessage) refl (rw (le-leb _ _ l))
 
   module _ (waits : place < n.waiting) (m : Message F) (is : m ≡ get_or t.messages place m) where
     there : place < length (take n.waiting t.messages)
-    there = omega (arith, waiting_is)
+    there = omega (arith, waiting_is n t kept fit.messages)
 
     -- what was read is the message that waits at the place
     found : message s place ≡ m

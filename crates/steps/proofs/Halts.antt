@@ -1,7 +1,6 @@
 -- A party halted by the register is halted as the model says.
 use Rattle.std.proofs.Common.{◌≡◌, List, [], ◌∷◌, length, set, get_or, Some, None, Option, Result, Ok, Err, sym, refl, ap, ◌∙◌, arith, ◌≤◌}
 use Rattle.std.specs.Result.{OnOk, OnErr, result_err, result_and}
-use Rattle.std.proofs.lemmas.List.{length-take-le}
 use Rattle.std.proofs.lemmas.Bool.{le-ltb}
 use Rattle.quorum.specs.Sets.{Rule}
 use Rattle.model.specs.declared.parties.Party.{Party}
@@ -16,7 +15,8 @@ use Rattle.tables.specs.View.{Tables, view, Kept}
 use Rattle.steps.specs.Doing.{judged, SameSizes, Does}
 use Rattle.steps.specs.Renumbered.{with_writer}
 use Rattle.steps.proofs.Fronts.{stored_own}
-use Rattle.steps.proofs.Judging.{declines, same_sizes}
+use Rattle.steps.proofs.Judging.{declines}
+use Rattle.steps.proofs.Renumbered.{sizes_stay, kept_stays, same_sizes, waiting_is}
 
 messages_stay : {F : Type 0} (s : State F) (p : Party) → (stopped s p).messages ≡ s.messages
 messages_stay s Party.Writer = refl
@@ -37,20 +37,8 @@ numbers_stopped n (Party.Replica c) = n
 
 abbrev pub tables_stopped : {F : Type 0} → F → Tables F → Party → Tables F
 tables_stopped start t Party.Writer = t
-tables_stopped start t (Party.Reader r) = record {
-  replicas = t.replicas;
-  readers = set t.readers r (reader_halted (get_or t.readers r (new_reader start)));
-  marks = t.marks;
-  messages = t.messages;
-  journal = t.journal;
-}
-tables_stopped start t (Party.Replica c) = record {
-  replicas = set t.replicas c (replica_halted (get_or t.replicas c (new_replica start)));
-  readers = t.readers;
-  marks = t.marks;
-  messages = t.messages;
-  journal = t.journal;
-}
+tables_stopped start t (Party.Reader r) = record t { readers = set t.readers r (reader_halted (get_or t.readers r (new_reader start))) }
+tables_stopped start t (Party.Replica c) = record t { replicas = set t.replicas c (replica_halted (get_or t.replicas c (new_replica start))) }
 
 module _ {F : Type 0} (start : F) (rule : Rule) (n : Numbers) (t : Tables F) (kept : Kept n)
     (fm : length t.messages ≡ n.message_room) (fj : length t.journal ≡ n.journal_room) where
@@ -74,7 +62,7 @@ module _ {F : Type 0} (start : F) (rule : Rule) (n : Numbers) (t : Tables F) (ke
       → Halts p (Ok Reply.Done) n' t'
   unfolding judged tests done halt
   done_as p v n' t' e em ej k z =
-      let w = length-take-le n.waiting t.messages (omega (arith, kept.room)) in
+      let w = waiting_is n t kept fm in
       let l = ap length (messages_stay s p) in
       let fits : length (stopped s p).messages ≤ n.message_room = omega (arith, kept.room) in
       rw (sym v, le-ltb _ _ fits) (record {
@@ -88,18 +76,8 @@ module _ {F : Type 0} (start : F) (rule : Rule) (n : Numbers) (t : Tables F) (ke
   stops : (p : Party) → None ≡ verdict p → Halts p (Ok Reply.Done) (numbers_stopped n p) (tables_stopped start t p)
   stops Party.Writer v =
       done_as Party.Writer v (numbers_stopped n Party.Writer) t refl refl refl
-      (record {
-        some_replica = kept.some_replica;
-        few_replicas = kept.few_replicas;
-        some_reader = kept.some_reader;
-        few_readers = kept.few_readers;
-        room = kept.room;
-        few_messages = kept.few_messages;
-        lines_fit = kept.lines_fit;
-        few_lines = kept.few_lines;
-        stamps = kept.stamps;
-      })
-      (record { replicas = refl; readers = refl; message_room = refl; journal_room = refl })
+      (kept_stays n (writer_halted n.writer) n.waiting n.lines n.finished kept kept.room kept.lines_fit kept.stamps)
+      (sizes_stay n (writer_halted n.writer) n.waiting n.lines n.finished)
   stops (Party.Reader r) v =
       done_as (Party.Reader r) v n (tables_stopped start t (Party.Reader r)) refl refl refl kept (same_sizes n)
   stops (Party.Replica c) v =

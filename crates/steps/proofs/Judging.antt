@@ -7,8 +7,9 @@ use Rattle.model.specs.State.{State}
 use Rattle.model.specs.Steps.{Outcome, Tests, declined, tests, first_of, overfull, settled, done}
 use Rattle.tables.specs.declared.numbers.Numbers.{Numbers}
 use Rattle.tables.specs.View.{Tables, view, Kept}
-use Rattle.steps.specs.Doing.{judged, SameSizes, Does}
+use Rattle.steps.specs.Doing.{judged, Does}
 use Rattle.steps.proofs.Fronts.{stored_own}
+use Rattle.steps.proofs.Renumbered.{same_sizes}
 
 -- What a verdict comes to.
 abbrev pub ruled : {F : Type 0} → State F → Option Refusal → Outcome F → Outcome F
@@ -39,9 +40,6 @@ unfolding judged
 judged_by rule s c ts v e d =
     settled_by s (done rule s c) (tests rule s c) ∙ ap (λ (l : Tests). ruled s (first_of l) (done rule s c)) e
     ∙ ap (λ (w : Option Refusal). ruled s w (done rule s c)) (sym d)
-
-pub same_sizes : (n : Numbers) → SameSizes n n
-same_sizes n = record { replicas = refl; readers = refl; message_room = refl; journal_room = refl }
 
 -- a declined call leaves everything as it was
 pub declines : {F : Type 0} (start : F) (o : Outcome F) (n : Numbers) (t : Tables F) (e : Refusal) → Kept n

@@ -1,6 +1,7 @@
 pub mod Fronts
 pub mod Sending
 pub mod Counting
+pub mod Renumbered
 pub mod Judging
 pub mod Lines
 pub mod Opening

@@ -1,6 +1,5 @@
 -- The parts of a delivery: what finishes, what is sent, and one outcome after another.
 use Rattle.std.proofs.Common.{◌≡◌, ℕ, suc, pred, ◌+◌, ◌-◌, ◌<◌, ◌≤◌, List, [], ◌∷◌, ◌++◌, length, get_or, take, drop, set, Some, None, Option, sym, refl, ap, ◌∙◌, subst, ap₂, sub-one, arith, length-append, length-set, get_or-take, drop-drop, drop_at, Ok}
-use Rattle.std.proofs.lemmas.List.{length-take-le}
 use Rattle.model.specs.declared.messages.Message.{Message}
 use Rattle.model.specs.declared.messages.MessageKind.{MessageKind}
 use Rattle.model.specs.declared.parties.Party.{Party}
@@ -8,7 +7,7 @@ use Rattle.model.specs.declared.journal.Operation.{Operation}
 use Rattle.model.specs.declared.answers.Reply.{Reply}
 use Rattle.model.specs.State.{State, Held, stored, no_line, line, with_journal}
 use Rattle.model.specs.Records.{one_more}
-use Rattle.model.specs.Deliveries.{to_all}
+use Rattle.model.specs.Deliveries.{sending, to_all}
 use Rattle.model.specs.Steps.{Outcome, outcome, counted}
 use Rattle.model.proofs.Totals.{counted_length}
 use Rattle.tables.specs.declared.numbers.Numbers.{Numbers}
@@ -20,7 +19,7 @@ use Rattle.tables.specs.View.{Tables, tables, view, Kept}
 use Rattle.steps.specs.Doing.{SameSizes, Does}
 use Rattle.steps.specs.Posting.{sent_more}
 use Rattle.reaction.specs.Applied.{HasLine, stamp_kept, changed, writer_changed}
-use Rattle.steps.specs.Applying.{ended_by, numbers_ended, ending, sending_all}
+use Rattle.steps.specs.Applying.{ended_by, numbers_ended, ending}
 use Rattle.reaction.specs.Applied.{with_records, with_finish_of, reply_of, sent_by, applied}
 use Rattle.steps.specs.Renumbered.{with_waiting, with_finished, with_writer}
 use Rattle.steps.proofs.Fronts.{stored_own}
@@ -28,8 +27,7 @@ use Rattle.steps.proofs.Lines.{line_changed}
 use Rattle.steps.proofs.Opening.{take_stored}
 use Rattle.steps.proofs.Counting.{counted_all}
 use Rattle.steps.proofs.Sending.{length_to_all}
-use Rattle.steps.proofs.Judging.{same_sizes}
-use Rattle.steps.proofs.Transits.{kept_waiting}
+use Rattle.steps.proofs.Renumbered.{kept_stays, same_sizes, sizes_then, waiting_is, lines_are}
 use Rattle.model.specs.Answers.{Answer}
 
 -- ONE OUTCOME AFTER ANOTHER
@@ -44,15 +42,6 @@ stored_stored f g t le =
     ∙ ap (λ (l : List _). drop k l) (drop_at f (drop (length f) t) (length f) refl) ∙ drop-drop k (length f) t in
     ap (λ (i : ℕ). g ++ drop i (f ++ drop (length f) t)) e ∙ ap (λ (l : List _). g ++ l) d
     ∙ ap (λ (i : ℕ). g ++ drop i t) (sym e)
-
-module _ {n m l : Numbers} where
-  pub sizes_then : SameSizes n m → SameSizes m l → SameSizes n l
-  sizes_then a b = record {
-    replicas = b.replicas ∙ a.replicas;
-    readers = b.readers ∙ a.readers;
-    message_room = b.message_room ∙ a.message_room;
-    journal_room = b.journal_room ∙ a.journal_room;
-  }
 
 -- the second begins where the first has ended, and takes nothing out
 pub does_then : {F : Type 0} {start : F} {n m l : Numbers} {t u v : Tables F} {q r : Answer F} (a b o : Outcome F)
@@ -74,17 +63,7 @@ does_then {F} {start} {n} {m} {l} {t} {u} {v} a b o first then more_messages mor
 -- WHAT FINISHES AND WHAT IS SENT
 
 kept_finished : (n : Numbers) → Kept n → (finished : ℕ) → Kept (with_finished n finished)
-kept_finished n kept finished = record {
-  some_replica = kept.some_replica;
-  few_replicas = kept.few_replicas;
-  some_reader = kept.some_reader;
-  few_readers = kept.few_readers;
-  room = kept.room;
-  few_messages = kept.few_messages;
-  lines_fit = kept.lines_fit;
-  few_lines = kept.few_lines;
-  stamps = kept.stamps;
-}
+kept_finished n kept finished = kept_stays n n.writer n.waiting n.lines finished kept kept.room kept.lines_fit kept.stamps
 
 module _ {F : Type 0} (start : F) (n : Numbers) (t : Tables F) (kept : Kept n)
     (fm : length t.messages ≡ n.message_room) (fj : length t.journal ≡ n.journal_room) where
@@ -93,9 +72,6 @@ module _ {F : Type 0} (start : F) (n : Numbers) (t : Tables F) (kept : Kept n)
 
   lines_fit : n.lines ≤ length t.journal
   lines_fit = omega (arith, kept.lines_fit)
-
-  lines_are : length (take n.lines t.journal) ≡ n.lines
-  lines_are = length-take-le n.lines t.journal lines_fit
 
   module _ (f : Finish F) (there : HasLine n.lines f.operation) where
     abbrev ends : Operation F → ℕ → Operation F
@@ -123,7 +99,7 @@ module _ {F : Type 0} (start : F) (n : Numbers) (t : Tables F) (kept : Kept n)
         line_changed t.journal n.lines lines_fit (f.operation - 1) (ends row n.lines) low
         ∙ ap (λ (i : ℕ). stored (set (take n.lines t.journal) i (ends row n.lines)) t.journal) (sub-one f.operation)
         ∙ ap₂ (λ (x : Operation F) (k : ℕ). stored (set (take n.lines t.journal) (pred f.operation) (ends x k)) t.journal)
-        (sym found) (sym lines_are)
+        (sym found) (sym (lines_are n t kept fj))
 
     pub ends_some : Does start (ending s (Some f)) n t
         (Ok (Reply.Finished f.operation f.stamp f.figure row.sent f.exchanges)) (with_finished n (one_more n.finished))
@@ -135,7 +111,7 @@ module _ {F : Type 0} (start : F) (n : Numbers) (t : Tables F) (kept : Kept n)
             ap (λ (js : List (Operation F)). with_journal s js (one_more n.finished))
             (ap (λ (js : List (Operation F)). take n.lines js) written
             ∙ take_stored front t.journal n.lines
-            (length-set (take n.lines t.journal) (pred f.operation) _ ∙ lines_are));
+            (length-set (take n.lines t.journal) (pred f.operation) _ ∙ lines_are n t kept fj));
         kept = kept_finished n kept (one_more n.finished);
         sizes = record { replicas = refl; readers = refl; message_room = refl; journal_room = refl };
       };
@@ -153,12 +129,12 @@ module _ {F : Type 0} (start : F) (n : Numbers) (t : Tables F) (kept : Kept n)
     wait_are : length more_wait ≡ n.waiting + length l
     wait_are =
         length-append (take n.waiting t.messages) l
-        ∙ ap (λ (k : ℕ). k + length l) (length-take-le n.waiting t.messages (omega (arith, kept.room)))
+        ∙ ap (λ (k : ℕ). k + length l) (waiting_is n t kept fm)
 
     tallied_are : length tallied ≡ n.lines
-    tallied_are = counted_length start (take n.lines t.journal) l ∙ lines_are
+    tallied_are = counted_length start (take n.lines t.journal) l ∙ lines_are n t kept fj
 
-    pub sends : Does start (sending_all s l) n t (Ok Reply.Done) (with_waiting n (n.waiting + length l))
+    pub sends : Does start (outcome [] (sending s l)) n t (Ok Reply.Done) (with_waiting n (n.waiting + length l))
         (tables t.replicas t.readers t.marks (stored more_wait t.messages) (stored tallied t.journal))
     sends = record {
       advances = record {
@@ -167,7 +143,7 @@ module _ {F : Type 0} (start : F) (n : Numbers) (t : Tables F) (kept : Kept n)
             ap₂ (λ (ms : List (Message F)) (js : List (Operation F)). record s { messages = ms; journal = js })
             (take_stored more_wait t.messages (n.waiting + length l) wait_are)
             (take_stored tallied t.journal n.lines tallied_are);
-        kept = kept_waiting n kept (n.waiting + length l) room;
+        kept = kept_stays n n.writer (n.waiting + length l) n.lines n.finished kept room kept.lines_fit kept.stamps;
         sizes = record { replicas = refl; readers = refl; message_room = refl; journal_room = refl };
       };
       messages = refl;
@@ -204,17 +180,8 @@ few_sent size some (Post.All kind i from t f) = omega (arith, length_to_all kind
 pub kept_writer : (n : Numbers) → Kept n → (to : Option Writer) → stamp_kept n.writer to
     → Kept (with_writer n (writer_changed n.writer to))
 kept_writer n kept None same = kept
-kept_writer n kept (Some w) same = record {
-  some_replica = kept.some_replica;
-  few_replicas = kept.few_replicas;
-  some_reader = kept.some_reader;
-  few_readers = kept.few_readers;
-  room = kept.room;
-  few_messages = kept.few_messages;
-  lines_fit = kept.lines_fit;
-  few_lines = kept.few_lines;
-  stamps = omega (arith, same, kept.stamps);
-}
+kept_writer n kept (Some w) same =
+    kept_stays n w n.waiting n.lines n.finished kept kept.room kept.lines_fit (omega (arith, same, kept.stamps))
 
 module _ {F : Type 0} where
   -- a finish changes one number only
@@ -269,14 +236,6 @@ module _ {F : Type 0} (start : F) (n : Numbers) (t : Tables F) (kept : Kept n)
   abbrev record_change : Outcome F
   record_change = record { reply = Ok Reply.Done; taken = []; sent = []; next = with_records before r }
 
-  abbrev record_end : Outcome F
-  record_end = record {
-    reply = Ok (reply_of before r.finish);
-    taken = [];
-    sent = [];
-    next = with_finish_of (with_records before r) r.finish;
-  }
-
   changes : Does start record_change n t (Ok Reply.Done) n₁ t₁
   changes = record {
     advances = record {
@@ -292,24 +251,25 @@ module _ {F : Type 0} (start : F) (n : Numbers) (t : Tables F) (kept : Kept n)
   pub applies : (w : Writer) → w ≡ writer_changed n.writer r.writer → (q : Answer F) (n₂ : Numbers) (t₂ : Tables F)
       → Does start (ending (view start (with_writer n w) t₁) r.finish) (with_writer n w) t₁ q n₂ t₂
       → (size : ℕ) → size ≡ n.replicas → (n₃ : Numbers) (t₃ : Tables F)
-      → Does start (sending_all (view start n₂ t₂) (sent_by size r.post)) n₂ t₂ (Ok Reply.Done) n₃ t₃
+      → Does start (outcome [] (sending (view start n₂ t₂) (sent_by size r.post))) n₂ t₂ (Ok Reply.Done) n₃ t₃
       → Does start (outcome [] (applied before n.replicas r)) n t q n₃ t₃
   unfolding applied
   applies w is q n₂ t₂ ends size e n₃ t₃ sent =
       let ended : Does start (ending (view start n₁ t₁) r.finish) n₁ t₁ q n₂ t₂
       = subst (λ (v : Writer). Does start (ending (view start (with_writer n v) t₁) r.finish) (with_writer n v) t₁ q n₂ t₂) is ends in
       let post = sent_by n.replicas r.post in
-      let first : Does start record_end n t q n₂ t₂
-      = does_then record_change (ending (view start n₁ t₁) r.finish) record_end changes ended
-      (omega (arith, ap length (messages_stay (with_records before r) r.finish)))
-      (omega (arith, lines_stay (with_records before r) r.finish))
-      q (ended.answer ∙ ap (λ (x : Reply F). Ok x) (same_reply before r r.finish)) refl in
-      let same : view start n₂ t₂ ≡ record_end.next = ended.state in
-      let sent_all : Does start (sending_all record_end.next post) n₂ t₂ (Ok Reply.Done) n₃ t₃
-      = subst (λ (l : List (Message F)). Does start (sending_all record_end.next l) n₂ t₂ (Ok Reply.Done) n₃ t₃)
+      let records : State F = with_records before r in
+      let first : Does start (ending records r.finish) n t q n₂ t₂
+      = does_then record_change (ending records r.finish) (ending records r.finish) changes ended
+      (omega (arith, ap length (messages_stay records r.finish)))
+      (omega (arith, lines_stay records r.finish))
+      q ended.answer refl in
+      let after : State F = with_finish_of records r.finish in
+      let sent_all : Does start (outcome [] (sending after post)) n₂ t₂ (Ok Reply.Done) n₃ t₃
+      = subst (λ (l : List (Message F)). Does start (outcome [] (sending after l)) n₂ t₂ (Ok Reply.Done) n₃ t₃)
       (ap (λ (k : ℕ). sent_by k r.post) e)
-      (subst (λ (s : State F). Does start (sending_all s (sent_by size r.post)) n₂ t₂ (Ok Reply.Done) n₃ t₃) same sent) in
-      does_then record_end (sending_all record_end.next post) (outcome [] (applied before n.replicas r)) first sent_all
-      (omega (arith, length-append record_end.next.messages post))
-      (omega (arith, counted_length record_end.next.start record_end.next.journal post))
-      q first.answer refl
+      (subst (λ (s : State F). Does start (outcome [] (sending s (sent_by size r.post))) n₂ t₂ (Ok Reply.Done) n₃ t₃) ended.state sent) in
+      does_then (ending records r.finish) (outcome [] (sending after post)) (outcome [] (applied before n.replicas r)) first sent_all
+      (omega (arith, length-append after.messages post))
+      (omega (arith, counted_length after.start after.journal post))
+      q (first.answer ∙ ap (λ (x : Reply F). Ok x) (same_reply before r r.finish)) refl

@@ -19,7 +19,8 @@ use Rattle.steps.specs.Starting.{started, opened_line}
 use Rattle.steps.specs.Doing.{judged, Does}
 use Rattle.steps.specs.Refusing.{read_tests}
 use Rattle.steps.proofs.Judging.{ruled, judged_by, declines}
-use Rattle.steps.proofs.Starts.{lines_are, more_wait, request, starts}
+use Rattle.steps.proofs.Renumbered.{lines_are}
+use Rattle.steps.proofs.Starts.{more_wait, request, starts}
 
 pub no_stamp_is : no_stamp ≡ 0
 unfolding no_stamp
@@ -35,7 +36,7 @@ module _ {F : Type 0} (start : F) (rule : Rule) (n : Numbers) (t : Tables F) (ke
       ≡ read_tests start n t.readers r
   unfolding tests done read
   tests_are =
-      rw (more_wait start rule n t kept fm fj same (opening_message kind) _ (Party.Reader r) (unused start), lines_are start rule n t kept fm fj same)
+      rw (more_wait start rule n t kept fm fj same (opening_message kind) _ (Party.Reader r) (unused start), lines_are n t kept fj)
 
   verdict : (v : Option Refusal) → v ≡ first_of (read_tests start n t.readers r)
       → judged rule s (Call.Read r kind) ≡ ruled s v (done rule s (Call.Read r kind))
@@ -74,7 +75,7 @@ module _ {F : Type 0} (start : F) (rule : Rule) (n : Numbers) (t : Tables F) (ke
   after : n.waiting + n.replicas ≤ n.message_room → n.lines < n.journal_room
       → (d : Reader F) → get_or t.readers r (new_reader start) ≡ d → After 0 (n.lines + 1) d
   after room line d e =
-      let l = lines_are start rule n t kept fm fj same in
+      let l = lines_are n t kept fj in
       let i : suc (length (take n.lines t.journal)) ≡ n.lines + 1 = omega arith in
       subst (λ (x : Reader F). After 0 (n.lines + 1) x) e
       (subst (λ (z : ℕ). After z (n.lines + 1) (get_or t.readers r (new_reader start))) no_stamp_is

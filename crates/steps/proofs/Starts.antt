@@ -1,6 +1,6 @@
 -- An operation that starts by the register's numbers starts as the model says.
-use Rattle.std.proofs.Common.{◌≡◌, ℕ, suc, pred, ◌+◌, ◌<◌, ◌≤◌, min, List, [], ◌∷◌, ◌++◌, length, take, sym, refl, ap, ◌∙◌, ap₂, arith, length-append, Ok}
-use Rattle.std.proofs.lemmas.List.{length-take-le, length_push}
+use Rattle.std.proofs.Common.{◌≡◌, ℕ, suc, pred, ◌+◌, ◌<◌, ◌≤◌, min, List, [], ◌∷◌, ◌++◌, length, take, sym, ap, ◌∙◌, ap₂, arith, length-append, Ok}
+use Rattle.std.proofs.lemmas.List.{length_push}
 use Rattle.quorum.specs.Sets.{Rule}
 use Rattle.model.specs.declared.messages.Message.{Message}
 use Rattle.model.specs.declared.messages.MessageKind.{MessageKind}
@@ -19,6 +19,7 @@ use Rattle.steps.specs.Starting.{started, opened_line}
 use Rattle.steps.specs.Doing.{Does}
 use Rattle.steps.proofs.Sending.{length_to_all}
 use Rattle.steps.proofs.Opening.{take_stored, counted_new}
+use Rattle.steps.proofs.Renumbered.{sizes_stay, kept_stays, waiting_is, lines_are}
 
 module _ {F : Type 0} (start : F) (rule : Rule) (n : Numbers) (t : Tables F) (kept : Kept n)
     (fm : length t.messages ≡ n.message_room) (fj : length t.journal ≡ n.journal_room)
@@ -26,18 +27,12 @@ module _ {F : Type 0} (start : F) (rule : Rule) (n : Numbers) (t : Tables F) (ke
   abbrev s : State F
   s = view start n t
 
-  pub waiting_is : length (take n.waiting t.messages) ≡ n.waiting
-  waiting_is = length-take-le n.waiting t.messages (omega (arith, kept.room))
-
-  pub lines_are : length (take n.lines t.journal) ≡ n.lines
-  lines_are = length-take-le n.lines t.journal (omega (arith, kept.lines_fit))
-
   -- so many messages wait once one has gone to every replica
   pub more_wait : (kind : MessageKind) (i : ℕ) (from : Party) (x : Held F)
       → length (take n.waiting t.messages ++ to_all rule.size kind i from x) ≡ n.waiting + n.replicas
   more_wait kind i from x =
       let l = length_to_all kind i from x rule.size in
-      let w = waiting_is in
+      let w = waiting_is n t kept fm in
       length-append (take n.waiting t.messages) (to_all rule.size kind i from x) ∙ omega arith
 
   -- the new line, with its messages counted
@@ -51,7 +46,7 @@ module _ {F : Type 0} (start : F) (rule : Rule) (n : Numbers) (t : Tables F) (ke
       let j = take n.lines t.journal in
       let k : ℕ = pred rule.size in
       let size : rule.size ≡ suc k = omega (arith, kept.some_replica) in
-      let l = lines_are in
+      let l = lines_are n t kept fj in
       let event : start_event s ≡ n.lines + 1 + n.finished = omega arith in
       let sent : min (0 + suc k) 65535 ≡ n.replicas = omega (arith, kept.few_replicas) in
       ap (λ (m : ℕ). counted start (j ++ new_line kind from (start_event s) x ∷ []) (to_all m message (suc (length j)) from x)) size
@@ -91,7 +86,7 @@ module _ {F : Type 0} (start : F) (rule : Rule) (n : Numbers) (t : Tables F) (ke
 
     messages_same : take n.waiting t.messages ++ sends ≡ messages_now
     messages_same =
-        let l = lines_are in
+        let l = lines_are n t kept fj in
         let e : suc (length (take n.lines t.journal)) ≡ n.lines + 1 = omega arith in
         ap₂ (λ (size i : ℕ). take n.waiting t.messages ++ to_all size message i from x) same e
 
@@ -99,13 +94,13 @@ module _ {F : Type 0} (start : F) (rule : Rule) (n : Numbers) (t : Tables F) (ke
     messages_long = ap length (sym messages_same) ∙ more_wait message _ from x
 
     lines_long : length lines_now ≡ n.lines + 1
-    lines_long = length_push (take n.lines t.journal) (opened_line n kind request) ∙ ap (λ (k : ℕ). k + 1) lines_are
+    lines_long = length_push (take n.lines t.journal) (opened_line n kind request) ∙ ap (λ (k : ℕ). k + 1) (lines_are n t kept fj)
 
     pub starts : n.waiting + n.replicas ≤ n.message_room → n.lines < n.journal_room → w.last ≤ n.lines + 1
         → Does start opens n t (Ok (Reply.Started (n.lines + 1))) (started n w)
         (tables t.replicas ds t.marks (stored messages_now t.messages) (stored lines_now t.journal))
     starts room line stamp =
-        let l = lines_are in
+        let l = lines_are n t kept fj in
         let answer : n.lines + 1 ≡ suc (length (take n.lines t.journal)) = omega arith in
         let counts = line_counted kind message from to x in
         let front = take_stored messages_now t.messages (n.waiting + n.replicas) messages_long in
@@ -117,18 +112,8 @@ module _ {F : Type 0} (start : F) (rule : Rule) (n : Numbers) (t : Tables F) (ke
                 ap₂ (λ (ms : List (Message F)) (js : List (Operation F)).
                 with_tables s w t.replicas ds t.marks ms js n.finished)
                 (front ∙ sym messages_same) (lines ∙ sym counts);
-            kept = record {
-              some_replica = kept.some_replica;
-              few_replicas = kept.few_replicas;
-              some_reader = kept.some_reader;
-              few_readers = kept.few_readers;
-              room = room;
-              few_messages = kept.few_messages;
-              lines_fit = omega arith;
-              few_lines = kept.few_lines;
-              stamps = stamp;
-            };
-            sizes = record { replicas = refl; readers = refl; message_room = refl; journal_room = refl };
+            kept = kept_stays n w (n.waiting + n.replicas) (n.lines + 1) n.finished kept room (omega arith) stamp;
+            sizes = sizes_stay n w (n.waiting + n.replicas) (n.lines + 1) n.finished;
           };
           messages = ap (λ (ms : List (Message F)). stored ms t.messages) (sym messages_same);
           journal = ap (λ (js : List (Operation F)). stored js t.journal) (sym counts);

@@ -1,6 +1,6 @@
 -- A message dropped or copied by the register's numbers is dropped or copied as the model says.
 use Rattle.std.proofs.Common.{◌≡◌, ℕ, ◌+◌, ◌-◌, ◌<◌, ◌≤◌, List, [], ◌∷◌, ◌++◌, length, get_or, take, Some, None, sym, refl, ap, ◌∙◌, subst, arith, get_or-take, Ok, Err}
-use Rattle.std.proofs.lemmas.List.{length-take-le, length_push, get_or_read}
+use Rattle.std.proofs.lemmas.List.{length_push, get_or_read}
 use Rattle.std.proofs.lemmas.Bool.{le-leb, lt-leb, le-ltb, lt-ltb}
 use Rattle.quorum.specs.Sets.{Rule}
 use Rattle.model.specs.declared.messages.Message.{Message}
@@ -16,28 +16,12 @@ use Rattle.steps.specs.Renumbered.{with_waiting}
 use Rattle.steps.proofs.Fronts.{length_without, stored_own}
 use Rattle.steps.proofs.Judging.{judged_by, declines}
 use Rattle.steps.proofs.Opening.{take_stored}
-
--- the messages that wait are others, and so many
-pub kept_waiting : (n : Numbers) → Kept n → (w : ℕ) → w ≤ n.message_room → Kept (with_waiting n w)
-kept_waiting n kept w le = record {
-  some_replica = kept.some_replica;
-  few_replicas = kept.few_replicas;
-  some_reader = kept.some_reader;
-  few_readers = kept.few_readers;
-  room = le;
-  few_messages = kept.few_messages;
-  lines_fit = kept.lines_fit;
-  few_lines = kept.few_lines;
-  stamps = kept.stamps;
-}
+use Rattle.steps.proofs.Renumbered.{sizes_stay, kept_stays, waiting_is}
 
 module _ {F : Type 0} (start : F) (rule : Rule) (n : Numbers) (t : Tables F) (kept : Kept n)
     (fm : length t.messages ≡ n.message_room) (fj : length t.journal ≡ n.journal_room) where
   abbrev s : State F
   s = view start n t
-
-  waiting_is : length (take n.waiting t.messages) ≡ n.waiting
-  waiting_is = length-take-le n.waiting t.messages (omega (arith, kept.room))
 
   -- only the waiting messages have become others
   others_wait : (taken : List (Message F)) (w : ℕ) (front : List (Message F)) → length front ≡ w → w ≤ n.message_room
@@ -47,8 +31,8 @@ module _ {F : Type 0} (start : F) (rule : Rule) (n : Numbers) (t : Tables F) (ke
     advances = record {
       answer = refl;
       state = ap (λ (ms : List (Message F)). with_messages s ms) (take_stored front t.messages w e);
-      kept = kept_waiting n kept w room;
-      sizes = record { replicas = refl; readers = refl; message_room = refl; journal_room = refl };
+      kept = kept_stays n n.writer w n.lines n.finished kept room kept.lines_fit kept.stamps;
+      sizes = sizes_stay n n.writer w n.lines n.finished;
     };
     messages = refl;
     journal = sym (stored_own n.lines t.journal);
@@ -62,14 +46,14 @@ module _ {F : Type 0} (start : F) (rule : Rule) (n : Numbers) (t : Tables F) (ke
         → Does start (judged rule s (Call.Drop place)) n t (Err Refusal.NoMessage) n t
     unfolding tests
     drop_declined le =
-        let w = waiting_is in
+        let w = waiting_is n t kept fm in
         let l : length (take n.waiting t.messages) ≤ place = omega arith in
         declines start _ n t Refusal.NoMessage kept
         (judged_by rule s (Call.Drop place) _ (Some Refusal.NoMessage) refl (rw (le-leb _ _ l)))
 
     gone_long : place < n.waiting → length gone ≡ n.waiting - 1
     gone_long lt =
-        let w = waiting_is in
+        let w = waiting_is n t kept fm in
         let d = length_without (take n.waiting t.messages) place (omega arith) in
         omega arith
 
@@ -85,7 +69,7 @@ module _ {F : Type 0} (start : F) (rule : Rule) (n : Numbers) (t : Tables F) (ke
         (tables t.replicas t.readers t.marks (stored gone t.messages) t.journal)
     unfolding tests done dropped
     drop_done lt =
-        let w = waiting_is in
+        let w = waiting_is n t kept fm in
         let l : place < length (take n.waiting t.messages) = omega arith in
         let g = gone_long lt in
         let r = kept.room in
@@ -96,7 +80,7 @@ module _ {F : Type 0} (start : F) (rule : Rule) (n : Numbers) (t : Tables F) (ke
         → Does start (judged rule s (Call.Duplicate place)) n t (Err Refusal.NoMessage) n t
     unfolding tests
     duplicate_absent le =
-        let w = waiting_is in
+        let w = waiting_is n t kept fm in
         let l : length (take n.waiting t.messages) ≤ place = omega arith in
         declines start _ n t Refusal.NoMessage kept
         (judged_by rule s (Call.Duplicate place) _ (Some Refusal.NoMessage) refl (rw (le-leb _ _ l)))
@@ -105,13 +89,13 @@ module _ {F : Type 0} (start : F) (rule : Rule) (n : Numbers) (t : Tables F) (ke
     copied m = take n.waiting t.messages ++ m ∷ []
 
     copied_long : (m : Message F) → length (copied m) ≡ n.waiting + 1
-    copied_long m = length_push (take n.waiting t.messages) m ∙ ap (λ (k : ℕ). k + 1) waiting_is
+    copied_long m = length_push (take n.waiting t.messages) m ∙ ap (λ (k : ℕ). k + 1) (waiting_is n t kept fm)
 
     pub duplicate_full : place < n.waiting → n.message_room ≤ n.waiting
         → Does start (judged rule s (Call.Duplicate place)) n t (Err Refusal.NoRoom) n t
     unfolding tests done duplicated
     duplicate_full lt full =
-        let w = waiting_is in
+        let w = waiting_is n t kept fm in
         let l : place < length (take n.waiting t.messages) = omega arith in
         let c = copied_long (message s place) in
         let over : n.message_room < length (copied (message s place)) = omega arith in
@@ -123,7 +107,7 @@ module _ {F : Type 0} (start : F) (rule : Rule) (n : Numbers) (t : Tables F) (ke
         (tables t.replicas t.readers t.marks (stored (copied m) t.messages) t.journal)
     unfolding tests done duplicated
     duplicate_done lt room m is =
-        let w = waiting_is in
+        let w = waiting_is n t kept fm in
         let l : place < length (take n.waiting t.messages) = omega arith in
         let c = copied_long (message s place) in
         let fits : length (copied (message s place)) ≤ n.message_room = omega arith in

@@ -18,7 +18,8 @@ use Rattle.steps.specs.Starting.{started, opened_line}
 use Rattle.steps.specs.Doing.{judged, Does}
 use Rattle.steps.specs.Refusing.{write_tests}
 use Rattle.steps.proofs.Judging.{ruled, judged_by, declines}
-use Rattle.steps.proofs.Starts.{lines_are, more_wait, request, starts}
+use Rattle.steps.proofs.Renumbered.{lines_are}
+use Rattle.steps.proofs.Starts.{more_wait, request, starts}
 
 pub next_is : (t : Stamp) → next_stamp t ≡ t + 1
 unfolding next_stamp
@@ -34,7 +35,7 @@ module _ {F : Type 0} (start : F) (rule : Rule) (n : Numbers) (t : Tables F) (ke
       ≡ write_tests n
   unfolding tests done write
   tests_are =
-      rw (more_wait start rule n t kept fm fj same MessageKind.Put _ Party.Writer (to_write s figure), lines_are start rule n t kept fm fj same)
+      rw (more_wait start rule n t kept fm fj same MessageKind.Put _ Party.Writer (to_write s figure), lines_are n t kept fj)
 
   verdict : (v : Option Refusal) → v ≡ first_of (write_tests n)
       → judged rule s (Call.Write figure) ≡ ruled s v (done rule s (Call.Write figure))
@@ -71,7 +72,7 @@ module _ {F : Type 0} (start : F) (rule : Rule) (n : Numbers) (t : Tables F) (ke
   after : n.waiting + n.replicas ≤ n.message_room → n.lines < n.journal_room
       → After (n.writer.last + 1) (n.lines + 1)
   after room line =
-      let l = lines_are start rule n t kept fm fj same in
+      let l = lines_are n t kept fj in
       let i : suc (length (take n.lines t.journal)) ≡ n.lines + 1 = omega arith in
       subst (λ (st : ℕ). After st (n.lines + 1)) (next_is n.writer.last)
       (subst (λ (k : ℕ). After (next_stamp n.writer.last) k) i (first_after room line))

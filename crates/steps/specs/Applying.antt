@@ -1,11 +1,9 @@
--- What the parts of a reaction come to, each as an outcome of its own.
-use Rattle.std.specs.Prelude.{ℕ, List, [], Some, None, Option, Ok}
-use Rattle.model.specs.declared.messages.Message.{Message}
+-- What the finish of a reaction comes to, as an outcome of its own.
+use Rattle.std.specs.Prelude.{ℕ, [], Some, None, Option, Ok}
 use Rattle.model.specs.declared.journal.Operation.{Operation}
-use Rattle.model.specs.declared.answers.Reply.{Reply}
 use Rattle.model.specs.State.{State}
 use Rattle.model.specs.Records.{one_more, ended}
-use Rattle.model.specs.Steps.{Outcome, posted}
+use Rattle.model.specs.Steps.{Outcome}
 use Rattle.tables.specs.declared.numbers.Numbers.{Numbers}
 use Rattle.reaction.specs.declared.reaction.Finish.{Finish}
 use Rattle.reaction.specs.Applied.{with_finish_of, reply_of}
@@ -22,6 +20,3 @@ numbers_ended n (Some f) = with_finished n (one_more n.finished)
 
 abbrev pub ending : {F : Type 0} → State F → Option (Finish F) → Outcome F
 ending s f = record { reply = Ok (reply_of s f); taken = []; sent = []; next = with_finish_of s f }
-
-abbrev pub sending_all : {F : Type 0} → State F → List (Message F) → Outcome F
-sending_all s l = record { reply = Ok Reply.Done; taken = []; sent = l; next = posted s l }

@@ -12,13 +12,4 @@ sent_to m to = new_message m.kind m.operation m.sender to (carried m)
 
 -- A line after so many more messages of its operation.
 abbrev pub sent_more : {F : Type 0} → Operation F → ℕ → Operation F
-sent_more o k = record {
-  kind = o.kind;
-  owner = o.owner;
-  started = o.started;
-  finished = o.finished;
-  exchanges = o.exchanges;
-  stamp = o.stamp;
-  figure = o.figure;
-  sent = min (o.sent + k) 65535;
-}
+sent_more o k = record o { sent = min (o.sent + k) 65535 }

@@ -9,16 +9,7 @@ use Rattle.tables.specs.declared.numbers.Numbers.{Numbers}
 
 -- The numbers with this writer, one line more, and a message to every replica.
 abbrev pub started : Numbers → Writer → Numbers
-started n w = record {
-  writer = w;
-  replicas = n.replicas;
-  readers = n.readers;
-  message_room = n.message_room;
-  journal_room = n.journal_room;
-  waiting = n.waiting + n.replicas;
-  lines = n.lines + 1;
-  finished = n.finished;
-}
+started n w = record n { writer = w; waiting = n.waiting + n.replicas; lines = n.lines + 1 }
 
 abbrev pub with_one_more : Numbers → Numbers
 with_one_more n = started n n.writer

@@ -1,6 +1,7 @@
-ghost use Rattle.std.specs.Prelude.{◌≡◌, ◌+◌, ◌-◌, ◌≤◌, List, ◌++◌, length, take, set, slice_index_or, Ok};
+ghost use Rattle.std.specs.Prelude.{◌≡◌, ◌+◌, ◌-◌, ◌≤◌, List, [], ◌++◌, length, take, set, slice_index_or, Ok};
 ghost use Rattle.model.specs.State.{stored, no_line};
-ghost use Rattle.model.specs.Steps.{counted};
+ghost use Rattle.model.specs.Deliveries.{sending};
+ghost use Rattle.model.specs.Steps.{counted, outcome};
 ghost use Rattle.model.specs.declared.answers.Reply.{Reply as ModelReply};
 ghost use Rattle.model.specs.declared.marks.RelayMark.{RelayMark as MarkRow};
 ghost use Rattle.model.specs.declared.messages.Message.{Message as MessageRow};
@@ -9,7 +10,7 @@ ghost use Rattle.model.specs.declared.replica.Replica.{Replica as ReplicaRow};
 ghost use Rattle.tables.specs.View.{tables, view, Kept};
 ghost use Rattle.steps.specs.Doing.{Does};
 ghost use Rattle.reaction.specs.Applied.{changed, sent_by, finish_within, post_within};
-ghost use Rattle.steps.specs.Applying.{ended_by, numbers_ended, ending, sending_all};
+ghost use Rattle.steps.specs.Applying.{ended_by, numbers_ended, ending};
 ghost use Rattle.steps.specs.Posting.{sent_more};
 
 use crate::tools::{append, send_all};
@@ -162,7 +163,7 @@ pub fn post<F: Copy>(
     requires within { post_within numbers.old.lines post }
     ensures { (start : F) (rs : List (ReplicaRow F)) (ds : List (ReaderRow F)) (ks : List MarkRow)
         → Does start
-        (sending_all (view start numbers.old (tables rs ds ks messages.old journal.old)) (sent_by numbers.old.replicas post))
+        (outcome [] (sending (view start numbers.old (tables rs ds ks messages.old journal.old)) (sent_by numbers.old.replicas post)))
         numbers.old (tables rs ds ks messages.old journal.old)
         (Ok ModelReply.Done)
         numbers.new (tables rs ds ks messages.new journal.new) }

@@ -15,7 +15,7 @@ use Rattle.model.specs.State.{State, line}
 use Rattle.model.specs.Sound.{each_from, reader_within, mark_within, sets_within, a_writer, a_reader, a_replica}
 use Rattle.model.specs.Sound.{suits, in_journal, addressed, messages_addressed, serves, owned, recorded, messages_recorded}
 use Rattle.model.specs.Sound.{placed, readers_placed, sound}
-use Rattle.tables.specs.Judged.{of_size, judged, reader_sound, message_sound}
+use Rattle.tables.specs.Judged.{of_size, register_of, reader_sound, message_sound}
 use Rattle.tables.proofs.Listed.{all_placed}
 
 -- TWO TESTS OF EACH ITEM are one
@@ -57,7 +57,7 @@ module _ {F : Type 0} (rule : Rule) (s : State F) where
   sized = of_size rule.size
 
   abbrev parts : State F
-  parts = judged s.start s.readers s.journal
+  parts = register_of s.start s.readers s.journal
 
   a_replica_sized : (p : Party) → a_replica rule p ≡ a_replica sized p
   a_replica_sized Party.Writer = refl
@@ -95,10 +95,10 @@ module _ {F : Type 0} (rule : Rule) (s : State F) where
 module _ {F : Type 0} (size : ℕ) (start : F) (readers : List (Reader F)) where
   abbrev pub all_parties : List RelayMark → List (Operation F) → Bool
   all_parties marks lines =
-      each_from 0 (reader_sound (of_size size) (judged start readers lines)) readers && list_all (mark_within (of_size size)) marks
+      each_from 0 (reader_sound (of_size size) (register_of start readers lines)) readers && list_all (mark_within (of_size size)) marks
 
   abbrev pub all_messages : List (Operation F) → List (Message F) → Bool
-  all_messages lines messages = list_all (message_sound (of_size size) (judged start readers lines)) messages
+  all_messages lines messages = list_all (message_sound (of_size size) (register_of start readers lines)) messages
 
   abbrev all_tables : List RelayMark → List (Operation F) → List (Message F) → Bool
   all_tables marks lines messages = all_parties marks lines && all_messages lines messages

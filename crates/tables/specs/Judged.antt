@@ -12,8 +12,8 @@ abbrev pub of_size : ℕ → Rule
 of_size n = record { size = n; round = λ members. false; hold = λ members. false }
 
 -- A register with these readers and these lines, and with nothing else.
-abbrev pub judged : {F : Type 0} → F → List (Reader F) → List (Operation F) → State F
-judged start readers lines = record {
+abbrev pub register_of : {F : Type 0} → F → List (Reader F) → List (Operation F) → State F
+register_of start readers lines = record {
   start = start;
   message_room = 0;
   journal_room = 0;

@@ -4,7 +4,7 @@ ghost use Rattle.std.specs.List.{list_all};
 ghost use Rattle.quorum.specs.Sets.{Rule};
 ghost use Rattle.model.specs.declared.replica.Replica.{Replica as ReplicaOf};
 ghost use Rattle.model.specs.Sound.{each_from, mark_within, sound as is_sound};
-ghost use Rattle.tables.specs.Judged.{of_size, judged, reader_sound, message_sound};
+ghost use Rattle.tables.specs.Judged.{of_size, register_of, reader_sound, message_sound};
 ghost use Rattle.tables.specs.View.{tables, view};
 
 use self::records::{message_sound, reader_sound};
@@ -57,7 +57,7 @@ fn parties_sound<F: Copy>(
     lines: &[Operation<F>],
 ) -> bool
     ensures { (start : F) →
-        result ≡ (each_from 0 (reader_sound (of_size size) (judged start readers.now lines.now))
+        result ≡ (each_from 0 (reader_sound (of_size size) (register_of start readers.now lines.now))
         readers.now && list_all (mark_within (of_size size)) marks.now) }
 {
     readers_sound(size, readers, lines) && marks_sound(size, marks)
@@ -66,7 +66,7 @@ fn parties_sound<F: Copy>(
 /// Whether every reader is sound.
 fn readers_sound<F: Copy>(size: u32, readers: &[Reader<F>], lines: &[Operation<F>]) -> bool
     ensures { (start : F) →
-        result ≡ each_from 0 (reader_sound (of_size size) (judged start readers.now lines.now))
+        result ≡ each_from 0 (reader_sound (of_size size) (register_of start readers.now lines.now))
         readers.now }
 {
     readers.iter().enumerate().all(|(number, reader)| reader_sound(size, lines, number, reader))
@@ -87,7 +87,7 @@ fn messages_sound<F: Copy>(
     waiting: &[Message<F>],
 ) -> bool
     ensures { (start : F) →
-        result ≡ list_all (message_sound (of_size size) (judged start readers.now lines.now))
+        result ≡ list_all (message_sound (of_size size) (register_of start readers.now lines.now))
         waiting.now }
 {
     waiting

@@ -2,13 +2,13 @@
 ghost use Rattle.std.specs.Prelude.{◌≡◌, List};
 ghost use Rattle.model.specs.declared.journal.Operation.{Operation as Line};
 ghost use Rattle.model.specs.Sound.{a_reader, a_replica, suits as are_suited};
-ghost use Rattle.tables.specs.Judged.{of_size, judged};
+ghost use Rattle.tables.specs.Judged.{of_size, register_of};
 
 use model::{MessageKind, Party, Reader};
 
 /// Whether the party is a reader that exists.
 pub fn is_reader<F: Copy>(readers: &[Reader<F>], party: Party) -> bool
-    ensures { (start : F) (lines : List (Line F)) → result ≡ a_reader (judged start readers.now lines) party }
+    ensures { (start : F) (lines : List (Line F)) → result ≡ a_reader (register_of start readers.now lines) party }
 {
     matches!(party, Party::Reader(r) if (r as usize) < readers.len())
 }
@@ -29,7 +29,7 @@ pub fn suits<F: Copy>(
     to: Party,
 ) -> bool
     ensures { (start : F) (lines : List (Line F)) →
-        result ≡ are_suited (of_size size) (judged start readers.now lines) kind from to }
+        result ≡ are_suited (of_size size) (register_of start readers.now lines) kind from to }
 {
     match kind {
         MessageKind::Put => from == Party::Writer && is_replica(size, to),

@@ -1,9 +1,9 @@
 //! One reader, and one waiting message: the tests that a pass over their tables makes.
-ghost use Rattle.std.specs.Prelude.{◌≡◌, ◌≤◌, ◌&&◌, List};
+ghost use Rattle.std.specs.Prelude.{◌≡◌, ◌&&◌, List};
 ghost use Rattle.model.specs.declared.reader.Reader.{Reader as ReaderOf};
 ghost use Rattle.model.specs.State.{line as line_of};
 ghost use Rattle.model.specs.Sound.{in_journal, recorded as is_booked, own_read as is_own_read, placed as is_placed};
-ghost use Rattle.tables.specs.Judged.{of_size, judged, reader_sound, message_sound};
+ghost use Rattle.tables.specs.Judged.{of_size, register_of, reader_sound, message_sound};
 
 use super::lines::{line_of, recorded};
 use super::parties::suits;
@@ -23,8 +23,8 @@ fn own_read<F: Copy>(number: usize, line: &Operation<F>) -> bool
 /// Whether the operation is in the journal, and a read of the reader of this number.
 fn reads<F: Copy>(lines: &[Operation<F>], number: usize, operation: u16) -> bool
     ensures { (start : F) (readers : List (ReaderOf F)) →
-        result ≡ (in_journal (judged start readers lines.now) operation
-        && is_own_read number (line_of (judged start readers lines.now) operation)) }
+        result ≡ (in_journal (register_of start readers lines.now) operation
+        && is_own_read number (line_of (register_of start readers lines.now) operation)) }
 {
     line_of(lines, operation).is_some_and(|line| own_read(number, line))
 }
@@ -32,7 +32,7 @@ fn reads<F: Copy>(lines: &[Operation<F>], number: usize, operation: u16) -> bool
 /// Whether the reader of this number is idle with operation 0, or has a read of its own under way.
 fn placed<F: Copy>(lines: &[Operation<F>], number: usize, reader: &Reader<F>) -> bool
     ensures { (start : F) (readers : List (ReaderOf F)) →
-        result ≡ is_placed (judged start readers lines.now) number reader.now }
+        result ≡ is_placed (register_of start readers lines.now) number reader.now }
 {
     match reader.phase {
         Phase::Idle => reader.operation == 0,
@@ -48,7 +48,7 @@ pub fn reader_sound<F: Copy>(
     reader: &Reader<F>,
 ) -> bool
     ensures { (start : F) (readers : List (ReaderOf F)) →
-        result ≡ reader_sound (of_size size) (judged start readers lines.now) number reader.now }
+        result ≡ reader_sound (of_size size) (register_of start readers lines.now) number reader.now }
 {
     reader_within(size, reader) && placed(lines, number, reader)
 }
@@ -61,9 +61,9 @@ fn line_recorded<F: Copy>(
     operation: u16,
 ) -> bool
     ensures { (start : F) →
-        result ≡ (in_journal (judged start readers.now lines.now) operation
-        && is_booked (judged start readers.now lines.now) kind
-        (line_of (judged start readers.now lines.now) operation)) }
+        result ≡ (in_journal (register_of start readers.now lines.now) operation
+        && is_booked (register_of start readers.now lines.now) kind
+        (line_of (register_of start readers.now lines.now) operation)) }
 {
     line_of(lines, operation).is_some_and(|line| recorded(readers, kind, line))
 }
@@ -76,7 +76,7 @@ pub fn message_sound<F: Copy>(
     message: &Message<F>,
 ) -> bool
     ensures { (start : F) →
-        result ≡ message_sound (of_size size) (judged start readers.now lines.now)
+        result ≡ message_sound (of_size size) (register_of start readers.now lines.now)
         message.now }
 {
     suits(
