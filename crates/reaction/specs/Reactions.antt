@@ -180,7 +180,7 @@ to_reader round hold r d kind m =
 
 -- TO THE WRITER
 
--- The operation that has finished wrote what its line holds.
+-- The writer has become w in an operation with line o. A round set of acknowledgers finishes it, with what its line holds.
 abbrev pub after_acknowledged : {F : Type 0} → Family → Writer → Operation F → ℕ → Reaction F
 after_acknowledged round w o n =
     cond (round (bits w.acknowledgers))

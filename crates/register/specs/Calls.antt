@@ -38,11 +38,11 @@ pub record Plays {R F : Type 0} {g : Ghosts R} (c : Call F) (x : Register R F g)
   pub start : x'.start ≡ x.start
   pub carries : Carries (meaning x) x.start c (answered (meaning x) x.start x.numbers t c) x.numbers t r x'.numbers t'
 
--- Tables that no call is declined for.
+-- Tables that are no reason to decline a call.
 pub record Checked {F : Type 0} (rule : Rule) (start : F) (n : Numbers) (t : Tables F) : Type 0 where
   pub fitting : Fitting n t
   pub is_sound : sound rule (view start n t) ≡ true
 
--- Whatever is called on these tables, it is declined for them.
+-- Whatever is called on these tables, it is declined with this refusal.
 abbrev pub Declines : {F : Type 0} → Rule → F → Numbers → Tables F → Refusal → Type 0
 Declines {F} rule start n t e = (c : Call F) → answered rule start n t c ≡ declined (view start n t) e

@@ -39,7 +39,7 @@ pub record Made {R F : Type 0} {g : Ghosts R} (d : Draft R F g) (message_room jo
   pub head : o.head ≡ 0
   pub journal : vec_len o.journal ≡ journal_room
 
--- A newly founded cluster of a draft, with so much room. The empty history led there, and is served.
+-- A newly founded cluster of a draft, with so much room. The empty history led there, and under a lawful rule it is served.
 pub record NewCluster {R F : Type 0} {g : Ghosts R} (d : Draft R F g) (message_room journal_room : ℕ) (x : Cluster R F g)
     : Type 0 where
   pub rule : cluster_rule x ≡ drafted d
@@ -53,7 +53,7 @@ abbrev pub within_limits : UnfoundedCause → Bool
 within_limits UnfoundedCause.Rooms = false
 within_limits (UnfoundedCause.Memory e) = true
 
--- What founding comes to. The draft comes back as it was.
+-- What founding comes to: a new cluster, or the draft as it was, with the cause.
 abbrev pub Founded : {R F : Type 0} {g : Ghosts R} → Draft R F g → ℕ → ℕ → Result (Cluster R F g) (Unfounded R F g)
     → Type 0
 Founded d message_room journal_room (Ok x) =

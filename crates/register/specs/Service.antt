@@ -40,7 +40,8 @@ pub record Opened {R F : Type 0} {g : Ghosts R} (d : Draft R F g) (message_room 
   pub start : x.start ≡ d.start
   pub numbers : x.numbers ≡ new_numbers (drafted d).size d.readers message_room journal_room
 
--- x is the draft's register, newly in service over these tables. The empty history led there, and is served.
+-- x is the draft's register, newly in service over these tables. The empty history led there, and under a lawful rule it is
+-- served.
 pub record InService {R F : Type 0} {g : Ghosts R} (d : Draft R F g) (x : Register R F g) (t : Tables F) : Type 0 where
   pub opened : Opened d (length t.messages) (length t.journal) x
   pub same_meaning : meaning x ≡ drafted d
@@ -49,7 +50,7 @@ pub record InService {R F : Type 0} {g : Ghosts R} (d : Draft R F g) (x : Regist
   pub begins : Grown (meaning x) x.start [] x.numbers t
   pub serves : Lawful (meaning x) → Served (meaning x) x.start [] (view x.start x.numbers t)
 
--- The draft came back as it was, and no table is altered.
+-- The draft came back as it was, with the refusal, and no table is altered.
 pub record SentBack {R F : Type 0} {g : Ghosts R} (d : Draft R F g) (t : Tables F) (u : Uncommissioned R F g) (t' : Tables F) : Type 0 where
   pub draft : u.draft ≡ d
   pub refusal : u.refusal ≡ Refusal.TableLength

@@ -8,7 +8,7 @@ use Rattle.model.specs.declared.calls.Call.{Call}
 use Rattle.model.specs.declared.answers.Reply.{Reply}
 use Rattle.model.specs.declared.answers.Refusal.{Refusal}
 use Rattle.model.specs.State.{State, stored, without, with_messages, message, no_message}
-use Rattle.model.specs.Steps.{tests, done, dropped, duplicated}
+use Rattle.model.specs.Steps.{Tests, tests, no_place, overfull, done, dropped, duplicated}
 use Rattle.tables.specs.declared.numbers.Numbers.{Numbers}
 use Rattle.tables.specs.View.{Tables, tables, view, Kept}
 use Rattle.steps.specs.Doing.{judged, Does}
@@ -42,14 +42,23 @@ module _ {F : Type 0} (start : F) (rule : Rule) (n : Numbers) (t : Tables F) (ke
     abbrev gone : List (Message F)
     gone = without (take n.waiting t.messages) place
 
-    pub drop_declined : n.waiting ≤ place
-        → Does start (judged rule s (Call.Drop place)) n t (Err Refusal.NoMessage) n t
-    unfolding tests
-    drop_declined le =
+    absent : (c : Call F) → tests rule s c ≡ (no_place s place, Refusal.NoMessage) ∷ [] → n.waiting ≤ place
+        → Does start (judged rule s c) n t (Err Refusal.NoMessage) n t
+    absent c e le =
         let w = waiting_is n t kept fm in
         let l : length (take n.waiting t.messages) ≤ place = omega arith in
+        let room : Tests = (overfull s (done rule s c), Refusal.NoRoom) ∷ [] in
         declines start _ n t Refusal.NoMessage kept
-        (judged_by rule s (Call.Drop place) _ (Some Refusal.NoMessage) refl (rw (le-leb _ _ l)))
+        (judged_by rule s c _ (Some Refusal.NoMessage) (ap (λ (ts : Tests). ts ++ room) e) (rw (le-leb _ _ l)))
+
+    pub drop_absent : n.waiting ≤ place → Does start (judged rule s (Call.Drop place)) n t (Err Refusal.NoMessage) n t
+    unfolding tests
+    drop_absent = absent (Call.Drop place) refl
+
+    pub duplicate_absent : n.waiting ≤ place
+        → Does start (judged rule s (Call.Duplicate place)) n t (Err Refusal.NoMessage) n t
+    unfolding tests
+    duplicate_absent = absent (Call.Duplicate place) refl
 
     gone_long : place < n.waiting → length gone ≡ n.waiting - 1
     gone_long lt =
@@ -75,15 +84,6 @@ module _ {F : Type 0} (start : F) (rule : Rule) (n : Numbers) (t : Tables F) (ke
         let r = kept.room in
         let room : length gone ≤ n.message_room = omega arith in
         rw (judged_by rule s (Call.Drop place) _ None refl (rw (lt-leb _ _ l, le-ltb _ _ room))) (taken_out lt)
-
-    pub duplicate_absent : n.waiting ≤ place
-        → Does start (judged rule s (Call.Duplicate place)) n t (Err Refusal.NoMessage) n t
-    unfolding tests
-    duplicate_absent le =
-        let w = waiting_is n t kept fm in
-        let l : length (take n.waiting t.messages) ≤ place = omega arith in
-        declines start _ n t Refusal.NoMessage kept
-        (judged_by rule s (Call.Duplicate place) _ (Some Refusal.NoMessage) refl (rw (le-leb _ _ l)))
 
     abbrev copied : Message F → List (Message F)
     copied m = take n.waiting t.messages ++ m ∷ []

@@ -18,5 +18,6 @@ abbrev pub numbers_ended : {F : Type 0} → Numbers → Option (Finish F) → Nu
 numbers_ended n None = n
 numbers_ended n (Some f) = with_finished n (one_more n.finished)
 
+-- The answer to what finishes, and the state after it. Nothing is sent.
 abbrev pub ending : {F : Type 0} → State F → Option (Finish F) → Outcome F
 ending s f = record { reply = Ok (reply_of s f); taken = []; sent = []; next = with_finish_of s f }

@@ -12,14 +12,15 @@ use Rattle.tables.specs.View.{Tables, view, Kept}
 unfoldable pub judged : {F : Type 0} → Rule → State F → Call F → Outcome F
 judged rule s c = settled s (first_of (tests rule s c)) (done rule s c)
 
--- The tables are as long, and as many parties there are, as before.
+-- By the numbers the tables are as long, and the parties as many, as before.
 pub record SameSizes (n after : Numbers) : Type 0 where
   pub replicas : after.replicas ≡ n.replicas
   pub readers : after.readers ≡ n.readers
   pub message_room : after.message_room ≡ n.message_room
   pub journal_room : after.journal_room ≡ n.journal_room
 
--- The answer and the state are those of the outcome.
+-- The answer and the state are those of the outcome, the numbers are still such as a register in service has, and the tables
+-- as long.
 pub record Advances {F : Type 0} (start : F) (o : Outcome F) (n : Numbers) (r : Answer F) (n' : Numbers) (t' : Tables F)
     : Type 0 where
   pub answer : r ≡ o.reply

@@ -20,6 +20,7 @@ pub record Planned {F : Type 0} (rule : Rule) (start : F) (n : Numbers) (t : Tab
   pub room : (n.waiting - 1) + length (sent_by n.replicas r.post) ≤ n.message_room
   pub applicable : Applicable n r
 
+-- A plan, or the refusal that the delivery is declined with.
 abbrev pub Plan : {F : Type 0} → Rule → F → Numbers → Tables F → ℕ → Result (Reaction F) Refusal → Type 0
 Plan rule start n t place (Ok r) = Planned rule start n t place r
 Plan rule start n t place (Err e) = judged rule (view start n t) (Call.Deliver place) ≡ declined (view start n t) e

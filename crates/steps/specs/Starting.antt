@@ -11,9 +11,6 @@ use Rattle.tables.specs.declared.numbers.Numbers.{Numbers}
 abbrev pub started : Numbers → Writer → Numbers
 started n w = record n { writer = w; waiting = n.waiting + n.replicas; lines = n.lines + 1 }
 
-abbrev pub with_one_more : Numbers → Numbers
-with_one_more n = started n n.writer
-
 -- The line of an operation whose owner has sent this message to every replica.
 abbrev pub opened_line : {F : Type 0} → Numbers → OperationKind → Message F → Operation F
 opened_line n kind m = record {

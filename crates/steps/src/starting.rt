@@ -9,7 +9,7 @@ ghost use Rattle.model.specs.declared.reader.Reader.{Reader as ReaderRow};
 ghost use Rattle.model.specs.declared.replica.Replica.{Replica as ReplicaRow};
 ghost use Rattle.model.specs.declared.marks.RelayMark.{RelayMark as MarkRow};
 ghost use Rattle.tables.specs.View.{tables, view, Kept};
-ghost use Rattle.steps.specs.Starting.{with_one_more, opened_line, ReadClear};
+ghost use Rattle.steps.specs.Starting.{started, opened_line, ReadClear};
 ghost use Rattle.steps.specs.Doing.{judged, Does};
 ghost use Rattle.steps.specs.Refusing.{rest_tests, room_tests, write_tests, read_tests};
 
@@ -193,7 +193,7 @@ fn open<F: Copy>(
     requires kept { Kept numbers.old }
     requires messages_fit { numbers.old.waiting + numbers.old.replicas ≤ length messages.old }
     requires journal_fits { numbers.old.lines < length journal.old }
-    ensures numbers { numbers.new ≡ with_one_more numbers.old }
+    ensures numbers { numbers.new ≡ started numbers.old numbers.old.writer }
     ensures messages { messages.new ≡ stored (take numbers.old.waiting messages.old
         ++ to_all numbers.old.replicas message.kind message.operation message.sender (carried message)) messages.old }
     ensures journal { journal.new ≡ stored (take numbers.old.lines journal.old

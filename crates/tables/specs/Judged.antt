@@ -11,7 +11,7 @@ use Rattle.model.specs.Sound.{reader_within, addressed, recorded, placed}
 abbrev pub of_size : ℕ → Rule
 of_size n = record { size = n; round = λ members. false; hold = λ members. false }
 
--- A register with these readers and these lines, and with nothing else.
+-- A register that starts with this figure and has these readers and these lines, and nothing else.
 abbrev pub register_of : {F : Type 0} → F → List (Reader F) → List (Operation F) → State F
 register_of start readers lines = record {
   start = start;
