@@ -1,5 +1,5 @@
 -- The model's step on a delivered message is what its reaction comes to.
-use Rattle.std.proofs.Common.{◌≡◌, ℕ, Bool, true, false, cond, not, ◌&&◌, eqb, ltb, List, [], ◌∷◌, length, Some, None, Option, sym, refl, ap, ◌∙◌}
+use Rattle.std.proofs.Common.{◌≡◌, ℕ, Bool, true, false, cond, not, ◌&&◌, ◌||◌, eqb, ltb, List, [], ◌∷◌, length, Some, None, Option, sym, refl, ap, ◌∙◌}
 use Rattle.std.proofs.lemmas.Bool.{false≢true, and_parts, eqb-true, cond_both}
 use Rattle.quorum.specs.Sets.{Rule, bits, joined}
 use Rattle.model.specs.declared.parties.Party.{Party}
@@ -25,7 +25,7 @@ use Rattle.reaction.specs.declared.reaction.Post.{Post}
 use Rattle.reaction.specs.declared.reaction.Reaction.{Reaction}
 use Rattle.reaction.specs.declared.reaction.Move.{Move}
 use Rattle.reaction.specs.Reactions.{nothing, at_replica, at_writer, finish_with, move_in, next_move}
-use Rattle.reaction.specs.Reactions.{holding, offered, answer_to, after_mark, to_mark, replica_reaction, raised, lowers}
+use Rattle.reaction.specs.Reactions.{holding, offered, answer_to, after_mark, to_mark, replica_reaction}
 use Rattle.reaction.specs.Reactions.{hears, moved, after_heard, counts, reader_reaction}
 use Rattle.reaction.specs.Reactions.{writer_reaction, reaction}
 use Rattle.reaction.specs.Applied.{applied}
@@ -70,30 +70,22 @@ record Same {F : Type 0} (d e : Reader F) : Type 0 where
 replied_same : {F : Type 0} (d : Reader F) (c : ℕ) (x : Held F) (holders : ℕ) → Same d (replied_by d c x holders)
 replied_same d c x holders = record { phase = refl; operation = refl }
 
-raised_same : {F : Type 0} (d : Reader F) (c : ℕ) (x : Held F) → Same d (raised d c x)
-raised_same d c x =
-    cond_both (ltb d.best_stamp x.stamp) _ _ (Same d) (λ _. replied_same d c x (joined 0 c))
-    (λ _. cond_both (eqb d.best_stamp x.stamp) _ _ (Same d)
+heard_same : {F : Type 0} (d : Reader F) (c : ℕ) (x : Held F) → Same d (heard d c x)
+unfolding heard
+heard_same d c x =
+    cond_both (ltb (rank d.best_stamp) (rank x.stamp)) _ _ (Same d) (λ _. replied_same d c x (joined 0 c))
+    (λ _. cond_both (eqb (rank d.best_stamp) (rank x.stamp)) _ _ (Same d)
     (λ _. replied_same d c (best d) (joined d.holders c)) (λ _. replied_same d c (best d) d.holders))
 
--- The model's records, with stamps compared as numbers
+lowered_same : {F : Type 0} (d : Reader F) (c : ℕ) (x : Held F) → Same d (lowered d c x)
+unfolding lowered
+lowered_same d c x =
+    cond_both (eqb d.replies 0 || ltb (rank x.stamp) (rank d.best_stamp)) _ _ (Same d) (λ _. replied_same d c x d.holders)
+    (λ _. replied_same d c (best d) d.holders)
+
+-- A replica that was offered something
 
 module _ {F : Type 0} where
-  heard_raised : (d : Reader F) (c : ℕ) (x : Held F) → heard d c x ≡ raised d c x
-  unfolding heard rank
-  heard_raised d c x = refl
-
-  lowered_is : (d : Reader F) (c : ℕ) (x : Held F)
-      → lowered d c x ≡ cond (lowers d x.stamp) (replied_by d c x d.holders) (replied_by d c (best d) d.holders)
-  unfolding lowered rank
-  lowered_is d c x = refl
-
-  lowered_same : (d : Reader F) (c : ℕ) (x : Held F) → Same d
-      (cond (lowers d x.stamp) (replied_by d c x d.holders) (replied_by d c (best d) d.holders))
-  lowered_same d c x =
-      cond_both (lowers d x.stamp) _ _ (Same d) (λ _. replied_same d c x d.holders)
-      (λ _. replied_same d c (best d) d.holders)
-
   -- The replica that holds what it takes.
   abbrev took_by : Replica F → Message F → Replica F
   took_by x m = record {
@@ -103,8 +95,7 @@ module _ {F : Type 0} where
   }
 
   took_offered : (x : Replica F) (m : Message F) → took_by x m ≡ offered x m
-  unfolding rank
-  took_offered x m = go (ltb x.stamp m.stamp)
+  took_offered x m = go (ltb (rank x.stamp) (rank m.stamp))
     where
       go : (b : Bool) → record {
         stamp = (cond b (carried m) (holding x)).stamp;
@@ -291,11 +282,9 @@ module _ {F : Type 0} (rule : Rule) (s : State F) where
             splits come (counts d (sent MessageKind.Have (Party.Reader r)) (index from)) _ _ _ _ (λ e.
             let x : Held F = record { stamp = t; figure = f } in
             let was = counting (in_first d.phase) e in
-            let same = raised_same d (index from) x in
+            let same = heard_same d (index from) x in
             in_phase MessageKind.Have Phase.First _ (first_tells d.phase was.1) same
-            (ap (λ y. after_have rule s r y) (heard_raised d (index from) x)
-            ∙ after_first (raised d (index from) x) kind
-            (ap (λ k. (line s k).kind) (same.operation ∙ was.0) ∙ read)))
+            (after_first (heard d (index from) x) kind (ap (λ k. (line s k).kind) (same.operation ∙ was.0) ∙ read)))
             (λ _. idle)
 
         back_ack_reacts : on_back_ack_at rule s (sent MessageKind.BackAck (Party.Reader r)) r d
@@ -312,8 +301,7 @@ module _ {F : Type 0} (rule : Rule) (s : State F) where
             splits come (counts d (sent MessageKind.Reply (Party.Reader r)) (index from)) _ _ _ _ (λ e.
             let x : Held F = record { stamp = t; figure = f } in
             in_phase MessageKind.Reply Phase.Relay _ (relay_tells d.phase (counting (in_relay d.phase) e).1)
-            (lowered_same d (index from) x)
-            (ap (λ y. after_last rule s r y 3) (lowered_is d (index from) x) ∙ after_round _ 3))
+            (lowered_same d (index from) x) (after_round (lowered d (index from) x) 3))
             (λ _. idle)
 
       -- The line is a read, since a message to a reader serves one.

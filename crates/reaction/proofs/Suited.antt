@@ -1,5 +1,5 @@
 -- The reaction to a deliverable message is applicable: it is about the message's operation.
-use Rattle.std.proofs.Common.{◌≡◌, ℕ, ◌+◌, ◌*◌, not, ◌&&◌, eqb, ltb, length, get_or, sym, refl, ◌∙◌, subst}
+use Rattle.std.proofs.Common.{◌≡◌, ℕ, ◌+◌, ◌*◌, not, ◌&&◌, ◌||◌, eqb, ltb, length, get_or, sym, refl, ◌∙◌, subst}
 use Rattle.std.proofs.lemmas.Bool.{and_parts, eqb-true, cond_both}
 use Rattle.quorum.specs.Sets.{Rule, Family, bits}
 use Rattle.model.specs.declared.parties.Party.{Party}
@@ -12,11 +12,12 @@ use Rattle.model.specs.declared.replica.Replica.{Replica}
 use Rattle.model.specs.declared.journal.Operation.{Operation}
 use Rattle.model.specs.declared.messages.Message.{Message}
 use Rattle.model.specs.State.{State, index, new_mark, reader, replica, line}
-use Rattle.model.specs.Records.{acknowledged, marked}
+use Rattle.model.specs.Stamps.{rank}
+use Rattle.model.specs.Records.{acknowledged, heard, lowered, marked}
 use Rattle.tables.specs.declared.numbers.Numbers.{Numbers}
 use Rattle.reaction.specs.declared.reaction.Reaction.{Reaction}
 use Rattle.reaction.specs.declared.reaction.Move.{Move}
-use Rattle.reaction.specs.Reactions.{nothing, counts, hears, lowers, after_message, next_move, moved, after_heard, to_reader, to_writer}
+use Rattle.reaction.specs.Reactions.{nothing, counts, hears, after_message, next_move, moved, after_heard, to_reader, to_writer}
 use Rattle.reaction.specs.Reactions.{outdated, offered, after_mark, to_mark, replica_reaction, reaction_of, reaction}
 use Rattle.reaction.specs.Applied.{HasLine, Applicable}
 
@@ -44,12 +45,13 @@ module _ {F : Type 0} (n : Numbers) (m : Message F) (there : HasLine n.lines m.o
   Same d x = x.operation ≡ d.operation
 
   same_operation : (d : Reader F) (c : ℕ) (p : Phase) → Same d (hears d m c p)
+  unfolding heard lowered
   same_operation d c Phase.Idle = refl
   same_operation d c Phase.First =
-      cond_both (ltb d.best_stamp m.stamp) _ _ (Same d) (λ _. refl)
-      (λ _. cond_both (eqb d.best_stamp m.stamp) _ _ (Same d) (λ _. refl) (λ _. refl))
+      cond_both (ltb (rank d.best_stamp) (rank m.stamp)) _ _ (Same d) (λ _. refl)
+      (λ _. cond_both (eqb (rank d.best_stamp) (rank m.stamp)) _ _ (Same d) (λ _. refl) (λ _. refl))
   same_operation d c Phase.Second = refl
-  same_operation d c Phase.Relay = cond_both (lowers d m.stamp) _ _ (Same d) (λ _. refl) (λ _. refl)
+  same_operation d c Phase.Relay = cond_both (eqb d.replies 0 || ltb (rank m.stamp) (rank d.best_stamp)) _ _ (Same d) (λ _. refl) (λ _. refl)
 
   moved_apt : (r : ℕ) (d : Reader F) → HasLine n.lines d.operation → (v : Move) → Apt (moved r d v)
   moved_apt r d has Move.Wait = record { finish = tt; post = tt; writer = tt }

@@ -1,7 +1,6 @@
--- What a delivered message does, as a value that is worked out before any record is changed. Here stamps are compared as
--- the numbers that they are.
-use Rattle.std.specs.Prelude.{◌≡◌, ℕ, ◌+◌, ◌*◌, Bool, true, false, cond, not, ◌&&◌, ◌||◌, List, [], length, Some, None, Option, ◌==◌, nat_lt, slice_index_or}
-use Rattle.quorum.specs.Sets.{Rule, Family, bits, joined}
+-- What a delivered message does, as a value that is worked out before any record is changed.
+use Rattle.std.specs.Prelude.{◌≡◌, ℕ, ◌+◌, ◌*◌, Bool, true, false, cond, not, ◌&&◌, List, [], length, Some, None, Option, ◌==◌, nat_lt, slice_index_or}
+use Rattle.quorum.specs.Sets.{Rule, Family, bits}
 use Rattle.model.specs.declared.parties.Party.{Party}
 use Rattle.model.specs.declared.reader.Phase.{Phase}
 use Rattle.model.specs.declared.messages.MessageKind.{MessageKind}
@@ -13,8 +12,9 @@ use Rattle.model.specs.declared.reader.Reader.{Reader}
 use Rattle.model.specs.declared.marks.RelayMark.{RelayMark}
 use Rattle.model.specs.declared.messages.Message.{Message}
 use Rattle.model.specs.declared.journal.Operation.{Operation}
+use Rattle.model.specs.Stamps.{rank}
 use Rattle.model.specs.State.{State, Held, index, unused, new_message, new_mark, replica, reader, line}
-use Rattle.model.specs.Records.{acknowledged, writer_freed, best, replied_by, confirmed, placing, reader_freed, marked, mark_replied}
+use Rattle.model.specs.Records.{acknowledged, writer_freed, best, heard, confirmed, lowered, placing, reader_freed, marked, mark_replied}
 use Rattle.model.specs.Deliveries.{carried, in_first, in_second, in_relay, is_quick}
 use Rattle.model.specs.Sound.{addressed, recorded}
 use Rattle.tables.specs.declared.numbers.Numbers.{Numbers}
@@ -60,7 +60,7 @@ holding x = record { stamp = x.stamp; figure = x.figure }
 -- A replica after it was offered what m carries.
 abbrev pub offered : {F : Type 0} → Replica F → Message F → Replica F
 offered x m =
-    cond (nat_lt x.stamp m.stamp) (record { stamp = m.stamp; figure = m.figure; halted = x.halted }) x
+    cond (nat_lt (rank x.stamp) (rank m.stamp)) (record { stamp = m.stamp; figure = m.figure; halted = x.halted }) x
 
 -- What m's receiver answers to the owner of the operation.
 abbrev pub answer_to : {F : Type 0} → Party → Message F → MessageKind → Held F → Post F
@@ -122,24 +122,12 @@ meant MessageKind.Reply p = in_relay p
 abbrev pub counts : {F : Type 0} → Reader F → Message F → ℕ → Bool
 counts d m c = d.operation == m.operation && meant m.kind d.phase && not (bits d.replies c)
 
--- A reader in phase first after what replica c has.
-abbrev pub raised : {F : Type 0} → Reader F → ℕ → Held F → Reader F
-raised d c x =
-    cond (nat_lt d.best_stamp x.stamp) (replied_by d c x (joined 0 c))
-    (cond (d.best_stamp == x.stamp) (replied_by d c (best d) (joined d.holders c))
-    (replied_by d c (best d) d.holders))
-
--- Whether a relayed reply with this stamp becomes the best.
-abbrev pub lowers : {F : Type 0} → Reader F → ℕ → Bool
-lowers d t = d.replies == 0 || nat_lt t d.best_stamp
-
 -- A reader in this phase after m of replica c, which counts.
 abbrev pub hears : {F : Type 0} → Reader F → Message F → ℕ → Phase → Reader F
 hears d m c Phase.Idle = d
-hears d m c Phase.First = raised d c (carried m)
+hears d m c Phase.First = heard d c (carried m)
 hears d m c Phase.Second = confirmed d c
-hears d m c Phase.Relay =
-    cond (lowers d m.stamp) (replied_by d c (carried m) d.holders) (replied_by d c (best d) d.holders)
+hears d m c Phase.Relay = lowered d c (carried m)
 
 abbrev pub after_message : {F : Type 0} → Reader F → Message F → ℕ → Reader F
 after_message d m c = hears d m c d.phase

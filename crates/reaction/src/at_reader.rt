@@ -1,6 +1,6 @@
-ghost use Rattle.std.specs.Prelude.{◌≡◌, ◌<◌, if◌then◌else◌};
+ghost use Rattle.std.specs.Prelude.{◌≡◌, ◌<◌, ◌||◌, ◌==◌, nat_lt, if◌then◌else◌};
 ghost use Rattle.model.specs.State.{index as index_of};
-ghost use Rattle.reaction.specs.Reactions.{counts as counts_for, after_message, lowers as lowers_best, next_move};
+ghost use Rattle.reaction.specs.Reactions.{counts as counts_for, after_message, next_move};
 ghost use Rattle.reaction.specs.Reactions.{moved as moved_to, to_reader};
 
 use crate::reaction::{Finish, Move, Post, Reaction};
@@ -11,6 +11,7 @@ use quorum::{QuorumSystem, has, joined};
 ///
 /// It counts for the reader's current operation, in the phase that it is meant for, once for each sender.
 // How low the sender's number is, each function here asks: a message is a record of a lent table, so no ghost field says it.
+#[tactic(auto, unfolding(model::specs::Records::heard, model::specs::Records::lowered, model::specs::Stamps::rank))]
 pub fn hear<F: Copy>(reader: &mut Reader<F>, message: &Message<F>, sender: u32) -> bool
     requires { sender < 32 }
     ensures counted { result ≡ counts_for reader.old message.now sender }
@@ -44,7 +45,7 @@ pub fn hear<F: Copy>(reader: &mut Reader<F>, message: &Message<F>, sender: u32) 
 
 /// Whether a relayed reply becomes the reader's best: the first does, and then any with a lower stamp.
 fn lowers<F: Copy>(reader: &Reader<F>, message: &Message<F>) -> bool
-    ensures { result ≡ lowers_best reader.now message.now.stamp }
+    ensures { result ≡ (reader.now.replies == 0 || nat_lt message.now.stamp reader.now.best_stamp) }
 {
     reader.replies == 0 || message.stamp < reader.best_stamp
 }

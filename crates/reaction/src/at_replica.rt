@@ -8,6 +8,7 @@ use model::{Message, MessageKind, Party, RelayMark, Replica};
 use quorum::{QuorumSystem, joined};
 
 /// The replica after it was offered what the message carries: it takes that only if the stamp is above its own.
+#[tactic(auto, unfolding(model::specs::Stamps::rank))]
 pub fn offered<F: Copy>(replica: Replica<F>, message: &Message<F>) -> Replica<F>
     ensures { result ≡ after_offer replica message.now }
 {
