@@ -1,7 +1,7 @@
 -- Tables of which a front part is in use.
-use Rattle.std.proofs.Common.{◌≡◌, ℕ, zero, suc, ◌+◌, ◌-◌, ◌<◌, ◌≤◌, List, [], ◌∷◌, ◌++◌, length, take, drop, set, sym, refl, ap, ◌∙◌, arith, length-append, length-drop, length-take, take-take}
+use Rattle.std.proofs.Common.{◌≡◌, ℕ, zero, suc, ◌+◌, ◌-◌, ◌<◌, ◌≤◌, List, [], ◌∷◌, ◌++◌, length, take, drop, set, sym, refl, ap, ◌∙◌, arith, length-append, length-drop, length-take, length-set, take-take}
 use lib.Seq.{paste}
-use Rattle.std.proofs.lemmas.List.{drop-take, drop_more, length_push, append_assoc, length-take-le, set-append_right}
+use Rattle.std.proofs.lemmas.List.{drop-take, drop_more, length_push, append_assoc, length-take-le, take-append-drop, set-append_left, set-append_right}
 use Rattle.model.specs.State.{stored, without}
 
 -- what is left without a place is what stands before it and behind it
@@ -63,3 +63,13 @@ pub stored_push : {A : Type 0} (t : List A) (used : ℕ) (y : A) → used < leng
 stored_push t used y lt =
     ap (λ (l : List _). set l used y) (sym (stored_own used t))
     ∙ stored_more (take used t) t used y (length-take-le used t (omega arith)) lt
+
+-- a place in use is changed in the front
+pub line_changed : {A : Type 0} (t : List A) (used : ℕ) → used ≤ length t → (at : ℕ) (y : A) → at < used
+    → set t at y ≡ stored (set (take used t) at y) t
+line_changed t used fits at y lt =
+    let l = length-take-le used t fits in
+    let n = length-set (take used t) at y in
+    ap (λ (xs : List _). set xs at y) (sym (take-append-drop used t))
+    ∙ set-append_left (take used t) (drop used t) at y (omega arith)
+    ∙ ap (λ (k : ℕ). set (take used t) at y ++ drop k t) (sym (n ∙ l))

@@ -3,7 +3,6 @@ pub mod Sending
 pub mod Counting
 pub mod Renumbered
 pub mod Judging
-pub mod Lines
 pub mod Opening
 pub mod Starts
 pub mod Writes

@@ -22,8 +22,7 @@ use Rattle.reaction.specs.Applied.{HasLine, stamp_kept, changed, writer_changed}
 use Rattle.steps.specs.Applying.{ended_by, numbers_ended, ending}
 use Rattle.reaction.specs.Applied.{with_records, with_finish_of, reply_of, sent_by, applied}
 use Rattle.steps.specs.Renumbered.{with_waiting, with_finished, with_writer}
-use Rattle.steps.proofs.Fronts.{stored_own}
-use Rattle.steps.proofs.Lines.{line_changed}
+use Rattle.steps.proofs.Fronts.{stored_own, line_changed}
 use Rattle.steps.proofs.Opening.{take_stored}
 use Rattle.steps.proofs.Counting.{counted_all}
 use Rattle.steps.proofs.Sending.{length_to_all}

@@ -12,7 +12,7 @@ use Rattle.model.specs.Stamps.{Stamp, no_stamp}
 use Rattle.model.specs.State.{State, Held, stored, unused, new_reader}
 use Rattle.model.specs.Records.{reader_now}
 use Rattle.model.specs.Deliveries.{to_all}
-use Rattle.model.specs.Steps.{tests, first_of, overfull, done, read, opening_phase, opening_message}
+use Rattle.model.specs.Steps.{Outcome, tests, first_of, overfull, done, read, opening_phase, opening_message}
 use Rattle.tables.specs.declared.numbers.Numbers.{Numbers}
 use Rattle.tables.specs.View.{Tables, tables, view, Kept}
 use Rattle.steps.specs.Starting.{started, opened_line}
@@ -53,9 +53,10 @@ module _ {F : Type 0} (start : F) (rule : Rule) (n : Numbers) (t : Tables F) (ke
   abbrev reader_at : Stamp → ℕ → Reader F → Reader F
   reader_at z i d = reader_now d.halted i (opening_phase kind) 0 (shown_at z) 0
 
-  abbrev After : Stamp → ℕ → Reader F → Type 0
-  After z i d =
-      Does start (done rule s (Call.Read r kind)) n t (Ok (Reply.Started (n.lines + 1))) (started n n.writer)
+  -- what it leaves, where the call comes to this outcome
+  abbrev pub After : Outcome F → Stamp → ℕ → Reader F → Type 0
+  After o z i d =
+      Does start o n t (Ok (Reply.Started (n.lines + 1))) (started n n.writer)
       (tables t.replicas (set t.readers r (reader_at z i d)) t.marks
       (stored (take n.waiting t.messages ++ to_all n.replicas (opening_message kind) (n.lines + 1) (Party.Reader r) (shown_at z)) t.messages)
       (stored (take n.lines t.journal
@@ -64,7 +65,7 @@ module _ {F : Type 0} (start : F) (rule : Rule) (n : Numbers) (t : Tables F) (ke
       t.journal))
 
   first_after : n.waiting + n.replicas ≤ n.message_room → n.lines < n.journal_room
-      → After no_stamp (suc (length (take n.lines t.journal))) (get_or t.readers r (new_reader start))
+      → After (done rule s (Call.Read r kind)) no_stamp (suc (length (take n.lines t.journal))) (get_or t.readers r (new_reader start))
   unfolding done read
   first_after room line =
       starts start rule n t kept fm fj same n.writer
@@ -73,21 +74,15 @@ module _ {F : Type 0} (start : F) (rule : Rule) (n : Numbers) (t : Tables F) (ke
       room line (omega (arith, kept.stamps))
 
   after : n.waiting + n.replicas ≤ n.message_room → n.lines < n.journal_room
-      → (d : Reader F) → get_or t.readers r (new_reader start) ≡ d → After 0 (n.lines + 1) d
+      → (d : Reader F) → get_or t.readers r (new_reader start) ≡ d → After (done rule s (Call.Read r kind)) 0 (n.lines + 1) d
   after room line d e =
       let l = lines_are n t kept fj in
       let i : suc (length (take n.lines t.journal)) ≡ n.lines + 1 = omega arith in
-      subst (λ (x : Reader F). After 0 (n.lines + 1) x) e
-      (subst (λ (z : ℕ). After z (n.lines + 1) (get_or t.readers r (new_reader start))) no_stamp_is
-      (subst (λ (k : ℕ). After no_stamp k (get_or t.readers r (new_reader start))) i (first_after room line)))
+      subst (λ (x : Reader F). After (done rule s (Call.Read r kind)) 0 (n.lines + 1) x) e
+      (subst (λ (z : ℕ). After (done rule s (Call.Read r kind)) z (n.lines + 1) (get_or t.readers r (new_reader start))) no_stamp_is
+      (subst (λ (k : ℕ). After (done rule s (Call.Read r kind)) no_stamp k (get_or t.readers r (new_reader start))) i (first_after room line)))
 
   pub read_done : None ≡ first_of (read_tests start n t.readers r) → n.waiting + n.replicas ≤ n.message_room
       → n.lines < n.journal_room → (d : Reader F) → get_or t.readers r (new_reader start) ≡ d
-      → Does start (judged rule s (Call.Read r kind)) n t (Ok (Reply.Started (n.lines + 1))) (started n n.writer)
-      (tables t.replicas (set t.readers r (reader_at 0 (n.lines + 1) d)) t.marks
-      (stored (take n.waiting t.messages ++ to_all n.replicas (opening_message kind) (n.lines + 1) (Party.Reader r) (shown_at 0)) t.messages)
-      (stored (take n.lines t.journal
-      ++ opened_line n (OperationKind.Read kind)
-      (request start rule n t kept fm fj same n.writer t.readers (OperationKind.Read kind) (opening_message kind) (Party.Reader r) Party.Writer (shown_at 0)) ∷ [])
-      t.journal))
+      → After (judged rule s (Call.Read r kind)) 0 (n.lines + 1) d
   read_done v room line d e = rw (verdict None v) (after room line d e)

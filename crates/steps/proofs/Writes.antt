@@ -11,7 +11,7 @@ use Rattle.model.specs.declared.writer.Writer.{Writer}
 use Rattle.model.specs.Stamps.{Stamp, next_stamp}
 use Rattle.model.specs.State.{State, Held, stored}
 use Rattle.model.specs.Deliveries.{to_all}
-use Rattle.model.specs.Steps.{tests, first_of, overfull, done, write, to_write}
+use Rattle.model.specs.Steps.{Outcome, tests, first_of, overfull, done, write, to_write}
 use Rattle.tables.specs.declared.numbers.Numbers.{Numbers}
 use Rattle.tables.specs.View.{Tables, tables, view, Kept}
 use Rattle.steps.specs.Starting.{started, opened_line}
@@ -52,9 +52,10 @@ module _ {F : Type 0} (start : F) (rule : Rule) (n : Numbers) (t : Tables F) (ke
   abbrev written_at : Stamp → Held F
   written_at st = record { stamp = st; figure = figure }
 
-  abbrev After : Stamp → ℕ → Type 0
-  After st i =
-      Does start (done rule s (Call.Write figure)) n t (Ok (Reply.Started (n.lines + 1))) (started n (writer_at st i))
+  -- what it leaves, where the call comes to this outcome
+  abbrev pub After : Outcome F → Stamp → ℕ → Type 0
+  After o st i =
+      Does start o n t (Ok (Reply.Started (n.lines + 1))) (started n (writer_at st i))
       (tables t.replicas t.readers t.marks
       (stored (take n.waiting t.messages ++ to_all n.replicas MessageKind.Put (n.lines + 1) Party.Writer (written_at st)) t.messages)
       (stored (take n.lines t.journal
@@ -62,7 +63,7 @@ module _ {F : Type 0} (start : F) (rule : Rule) (n : Numbers) (t : Tables F) (ke
       t.journal))
 
   first_after : n.waiting + n.replicas ≤ n.message_room → n.lines < n.journal_room
-      → After (next_stamp n.writer.last) (suc (length (take n.lines t.journal)))
+      → After (done rule s (Call.Write figure)) (next_stamp n.writer.last) (suc (length (take n.lines t.journal)))
   unfolding done write
   first_after room line =
       starts start rule n t kept fm fj same (writer_at (next_stamp n.writer.last) (suc (length (take n.lines t.journal))))
@@ -70,19 +71,13 @@ module _ {F : Type 0} (start : F) (rule : Rule) (n : Numbers) (t : Tables F) (ke
       room line (omega (arith, next_is n.writer.last, kept.stamps))
 
   after : n.waiting + n.replicas ≤ n.message_room → n.lines < n.journal_room
-      → After (n.writer.last + 1) (n.lines + 1)
+      → After (done rule s (Call.Write figure)) (n.writer.last + 1) (n.lines + 1)
   after room line =
       let l = lines_are n t kept fj in
       let i : suc (length (take n.lines t.journal)) ≡ n.lines + 1 = omega arith in
-      subst (λ (st : ℕ). After st (n.lines + 1)) (next_is n.writer.last)
-      (subst (λ (k : ℕ). After (next_stamp n.writer.last) k) i (first_after room line))
+      subst (λ (st : ℕ). After (done rule s (Call.Write figure)) st (n.lines + 1)) (next_is n.writer.last)
+      (subst (λ (k : ℕ). After (done rule s (Call.Write figure)) (next_stamp n.writer.last) k) i (first_after room line))
 
   pub write_done : None ≡ first_of (write_tests n) → n.waiting + n.replicas ≤ n.message_room → n.lines < n.journal_room
-      → Does start (judged rule s (Call.Write figure)) n t (Ok (Reply.Started (n.lines + 1)))
-      (started n (writer_at (n.writer.last + 1) (n.lines + 1)))
-      (tables t.replicas t.readers t.marks
-      (stored (take n.waiting t.messages ++ to_all n.replicas MessageKind.Put (n.lines + 1) Party.Writer (written_at (n.writer.last + 1))) t.messages)
-      (stored (take n.lines t.journal
-      ++ opened_line n OperationKind.Write (request start rule n t kept fm fj same (writer_at (n.writer.last + 1) (n.lines + 1)) t.readers OperationKind.Write MessageKind.Put Party.Writer Party.Writer (written_at (n.writer.last + 1))) ∷ [])
-      t.journal))
+      → After (judged rule s (Call.Write figure)) (n.writer.last + 1) (n.lines + 1)
   write_done v room line = rw (verdict None v) (after room line)

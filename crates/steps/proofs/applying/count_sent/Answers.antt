@@ -3,7 +3,7 @@ use Rattle.std.proofs.lemmas.List.{get_or_default}
 use Rattle.model.specs.State.{no_line}
 use Rattle.model.specs.declared.journal.Operation.{Operation}
 use Rattle.steps.specs.Posting.{sent_more}
-use Rattle.steps.proofs.Lines.{line_changed}
+use Rattle.steps.proofs.Fronts.{line_changed}
 use Rattle.steps.proofs.applying.count_sent.Goals as goal
 
 pub returns-then-at-from : goal.returns-then-at-from
