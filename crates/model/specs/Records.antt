@@ -1,5 +1,5 @@
 -- What becomes of single records as the register works.
-use Rattle.std.specs.Prelude.{ℕ, ◌+◌, min, Bool, true, false, cond, ◌||◌, ◌==◌, nat_lt}
+use Rattle.std.specs.Prelude.{ℕ, ◌+◌, min, true, false, cond, ◌||◌, ◌==◌, nat_lt}
 use Rattle.quorum.specs.Sets.{joined}
 use Rattle.model.specs.declared.reader.Phase.{Phase}
 use Rattle.model.specs.declared.writer.Writer.{Writer}
@@ -7,30 +7,25 @@ use Rattle.model.specs.declared.replica.Replica.{Replica}
 use Rattle.model.specs.declared.reader.Reader.{Reader}
 use Rattle.model.specs.declared.marks.RelayMark.{RelayMark}
 use Rattle.model.specs.declared.journal.Operation.{Operation}
-use Rattle.model.specs.Stamps.{Stamp, rank}
-use Rattle.model.specs.State.{Held, unused}
+use Rattle.model.specs.Stamps.{Stamp, no_stamp, rank}
+use Rattle.model.specs.State.{Held}
 
 -- THE WRITER
 
 -- It starts operation n under stamp t.
 abbrev pub writing : Writer → ℕ → Stamp → Writer
-writing w n t = record { halted = w.halted; last = t; operation = n; acknowledgers = 0 }
+writing w n t = record w { last = t; operation = n; acknowledgers = 0 }
 
 -- Replica c has acknowledged.
 abbrev pub acknowledged : Writer → ℕ → Writer
-acknowledged w c = record {
-  halted = w.halted;
-  last = w.last;
-  operation = w.operation;
-  acknowledgers = joined w.acknowledgers c;
-}
+acknowledged w c = record w { acknowledgers = joined w.acknowledgers c }
 
 -- Its operation has finished.
 abbrev pub writer_freed : Writer → Writer
-writer_freed w = record { halted = w.halted; last = w.last; operation = 0; acknowledgers = w.acknowledgers }
+writer_freed w = record w { operation = 0 }
 
 abbrev pub writer_halted : Writer → Writer
-writer_halted w = record { halted = true; last = w.last; operation = w.operation; acknowledgers = w.acknowledgers }
+writer_halted w = record w { halted = true }
 
 -- REPLICAS
 
@@ -39,7 +34,7 @@ abbrev pub took : {F : Type 0} → Held F → Held F → Held F
 took own offered = cond (nat_lt (rank own.stamp) (rank offered.stamp)) offered own
 
 abbrev pub replica_halted : {F : Type 0} → Replica F → Replica F
-replica_halted x = record { stamp = x.stamp; figure = x.figure; halted = true }
+replica_halted x = record x { halted = true }
 
 -- READERS
 
@@ -47,27 +42,28 @@ replica_halted x = record { stamp = x.stamp; figure = x.figure; halted = true }
 abbrev pub best : {F : Type 0} → Reader F → Held F
 best d = record { stamp = d.best_stamp; figure = d.best_figure }
 
-abbrev pub reader_now : {F : Type 0} → Bool → ℕ → Phase → ℕ → Held F → ℕ → Reader F
-reader_now halted operation phase replies best holders = record {
-  halted = halted;
-  operation = operation;
-  phase = phase;
-  replies = replies;
-  best_stamp = best.stamp;
-  best_figure = best.figure;
-  holders = holders;
-}
-
 abbrev pub reader_halted : {F : Type 0} → Reader F → Reader F
-reader_halted d = reader_now true d.operation d.phase d.replies (best d) d.holders
+reader_halted d = record d { halted = true }
 
 -- It starts operation n.
 abbrev pub reading : {F : Type 0} → F → Reader F → ℕ → Phase → Reader F
-reading start d n phase = reader_now d.halted n phase 0 (unused start) 0
+reading start d n phase = record d {
+  operation = n;
+  phase = phase;
+  replies = 0;
+  best_stamp = no_stamp;
+  best_figure = start;
+  holders = 0;
+}
 
 -- It has replica c among the replies, x as its best and these holders of it.
 abbrev pub replied_by : {F : Type 0} → Reader F → ℕ → Held F → ℕ → Reader F
-replied_by d c x holders = reader_now d.halted d.operation d.phase (joined d.replies c) x holders
+replied_by d c x holders = record d {
+  replies = joined d.replies c;
+  best_stamp = x.stamp;
+  best_figure = x.figure;
+  holders = holders;
+}
 
 -- After what replica c has: a higher stamp becomes the best, with c its only holder, and an equal one adds a holder.
 unfoldable pub heard : {F : Type 0} → Reader F → ℕ → Held F → Reader F
@@ -78,7 +74,7 @@ heard d c x =
 
 -- It goes on to its second round.
 abbrev pub placing : {F : Type 0} → Reader F → Reader F
-placing d = reader_now d.halted d.operation Phase.Second 0 (best d) d.holders
+placing d = record d { phase = Phase.Second; replies = 0 }
 
 -- After an acknowledgement of replica c.
 abbrev pub confirmed : {F : Type 0} → Reader F → ℕ → Reader F
@@ -93,7 +89,7 @@ lowered d c x =
 
 -- Its operation has finished.
 abbrev pub reader_freed : {F : Type 0} → Reader F → Reader F
-reader_freed d = reader_now d.halted 0 Phase.Idle d.replies (best d) d.holders
+reader_freed d = record d { operation = 0; phase = Phase.Idle }
 
 -- MARKS
 
@@ -102,10 +98,10 @@ unfoldable pub marked : RelayMark → ℕ → ℕ → RelayMark
 marked k n c =
     cond (nat_lt k.operation n)
     (record { operation = n; relayers = joined 0 c; replied = false })
-    (record { operation = k.operation; relayers = joined k.relayers c; replied = k.replied })
+    (record k { relayers = joined k.relayers c })
 
 abbrev pub mark_replied : RelayMark → RelayMark
-mark_replied k = record { operation = k.operation; relayers = k.relayers; replied = true }
+mark_replied k = record k { replied = true }
 
 -- LINES OF THE JOURNAL
 
@@ -115,26 +111,8 @@ one_more n = min (n + 1) 65535
 
 -- After one more message of its operation.
 abbrev pub one_sent : {F : Type 0} → Operation F → Operation F
-one_sent o = record {
-  kind = o.kind;
-  owner = o.owner;
-  started = o.started;
-  finished = o.finished;
-  exchanges = o.exchanges;
-  stamp = o.stamp;
-  figure = o.figure;
-  sent = one_more o.sent;
-}
+one_sent o = record o { sent = one_more o.sent }
 
 -- After its finish with x, at this event.
 abbrev pub ended : {F : Type 0} → Operation F → ℕ → Held F → ℕ → Operation F
-ended o event x exchanges = record {
-  kind = o.kind;
-  owner = o.owner;
-  started = o.started;
-  finished = event;
-  exchanges = exchanges;
-  stamp = x.stamp;
-  figure = x.figure;
-  sent = o.sent;
-}
+ended o event x exchanges = record o { finished = event; exchanges = exchanges; stamp = x.stamp; figure = x.figure }

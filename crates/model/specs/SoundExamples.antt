@@ -10,8 +10,7 @@ use Rattle.model.specs.declared.journal.ReadKind.{ReadKind}
 use Rattle.model.specs.declared.calls.Call.{Call}
 use Rattle.model.specs.declared.answers.Reply.{Reply}
 use Rattle.model.specs.declared.answers.Refusal.{Refusal}
-use Rattle.model.specs.State.{State, unused, new_message, new_line, fresh, with_reader, with_mark, with_messages, with_journal}
-use Rattle.model.specs.Records.{reader_now}
+use Rattle.model.specs.State.{State, unused, new_reader, new_message, new_line, fresh, with_reader, with_mark, with_messages, with_journal}
 use Rattle.model.specs.Sound.{sets_within, messages_addressed, messages_recorded, readers_placed, sound}
 use Rattle.model.specs.Steps.{declined, step}
 
@@ -31,7 +30,8 @@ tables = with_journal (fresh three 5 2 9 9) (
 
 -- The same where reader 0 is at this operation, in this phase, with these replies and holders.
 abbrev pub reads : ℕ → Phase → ℕ → ℕ → State ℕ
-reads n phase replies holders = with_reader tables 0 (reader_now false n phase replies (unused 5) holders)
+reads n phase replies holders =
+    with_reader tables 0 (record (new_reader 5) { operation = n; phase = phase; replies = replies; holders = holders })
 
 -- The same where replica 2 has a mark with these relayers for reader 1.
 abbrev pub relayed_by : ℕ → State ℕ

@@ -156,39 +156,24 @@ halted s (Party.Replica c) = (replica s c).halted
 
 -- CHANGING IT
 
-abbrev pub with_tables : {F : Type 0} → State F → Writer → List (Replica F) → List (Reader F) → List RelayMark
-    → List (Message F) → List (Operation F) → ℕ → State F
-with_tables s writer replicas readers marks messages journal finished = record {
-  start = s.start;
-  message_room = s.message_room;
-  journal_room = s.journal_room;
-  writer = writer;
-  replicas = replicas;
-  readers = readers;
-  marks = marks;
-  messages = messages;
-  journal = journal;
-  finished = finished;
-}
-
 abbrev pub with_writer : {F : Type 0} → State F → Writer → State F
-with_writer s w = with_tables s w s.replicas s.readers s.marks s.messages s.journal s.finished
+with_writer s w = record s { writer = w }
 
 abbrev pub with_replicas : {F : Type 0} → State F → List (Replica F) → State F
-with_replicas s l = with_tables s s.writer l s.readers s.marks s.messages s.journal s.finished
+with_replicas s l = record s { replicas = l }
 
 abbrev pub with_readers : {F : Type 0} → State F → List (Reader F) → State F
-with_readers s l = with_tables s s.writer s.replicas l s.marks s.messages s.journal s.finished
+with_readers s l = record s { readers = l }
 
 abbrev pub with_marks : {F : Type 0} → State F → List RelayMark → State F
-with_marks s l = with_tables s s.writer s.replicas s.readers l s.messages s.journal s.finished
+with_marks s l = record s { marks = l }
 
 abbrev pub with_messages : {F : Type 0} → State F → List (Message F) → State F
-with_messages s l = with_tables s s.writer s.replicas s.readers s.marks l s.journal s.finished
+with_messages s l = record s { messages = l }
 
 -- The journal and the number of finished operations.
 abbrev pub with_journal : {F : Type 0} → State F → List (Operation F) → ℕ → State F
-with_journal s l n = with_tables s s.writer s.replicas s.readers s.marks s.messages l n
+with_journal s l n = record s { journal = l; finished = n }
 
 abbrev pub with_reader : {F : Type 0} → State F → ℕ → Reader F → State F
 with_reader s r d = with_readers s (slice_set s.readers r d)
@@ -198,9 +183,7 @@ with_mark s c r k = with_marks s (slice_set s.marks (mark_place s c r) k)
 
 -- Replica c holds x.
 abbrev pub with_held : {F : Type 0} → State F → ℕ → Held F → State F
-with_held s c x =
-    with_replicas s
-    (slice_set s.replicas c (record { stamp = x.stamp; figure = x.figure; halted = (replica s c).halted }))
+with_held s c x = with_replicas s (slice_set s.replicas c (record (replica s c) { stamp = x.stamp; figure = x.figure }))
 
 abbrev pub without_message : {F : Type 0} → State F → ℕ → State F
 without_message s place = with_messages s (without s.messages place)

@@ -4,7 +4,6 @@ use Rattle.quorum.specs.Sets.{Rule}
 use Rattle.quorum.specs.Families.{count_rule, lead_rule}
 use Rattle.quorum.specs.Examples.{RuleExamples}
 use Rattle.model.specs.declared.parties.Party.{Party}
-use Rattle.model.specs.declared.reader.Phase.{Phase}
 use Rattle.model.specs.declared.messages.MessageKind.{MessageKind}
 use Rattle.model.specs.declared.journal.OperationKind.{OperationKind}
 use Rattle.model.specs.declared.journal.ReadKind.{ReadKind}
@@ -15,7 +14,6 @@ use Rattle.model.specs.declared.answers.Reply.{Reply}
 use Rattle.model.specs.declared.answers.Refusal.{Refusal}
 use Rattle.model.specs.Answers.{Answer}
 use Rattle.model.specs.State.{State, Held, unused, new_reader, new_mark, new_message, fresh}
-use Rattle.model.specs.Records.{reader_now}
 use Rattle.model.specs.SoundExamples.{SoundExamples}
 use Rattle.model.specs.History.{Run, run, replies}
 
@@ -99,7 +97,7 @@ first_script_end start first =
       journal_room = 256;
       writer = record { halted = false; last = 1; operation = 1; acknowledgers = 0 };
       replicas = holds x false ∷ holds x false ∷ holds (unused start) false ∷ [];
-      readers = reader_now false 0 Phase.Idle 3 x 1 ∷ new_reader start ∷ [];
+      readers = record (new_reader start) { replies = 3; best_stamp = x.stamp; best_figure = x.figure; holders = 1 } ∷ new_reader start ∷ [];
       marks = replicate 6 new_mark;
       messages =
           new_message MessageKind.Put 1 Party.Writer (Party.Replica 1) x

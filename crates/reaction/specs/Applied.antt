@@ -4,7 +4,7 @@ use Rattle.std.specs.Option.{unwrap_or}
 use Rattle.model.specs.declared.writer.Writer.{Writer}
 use Rattle.model.specs.declared.messages.Message.{Message}
 use Rattle.model.specs.declared.answers.Reply.{Reply}
-use Rattle.model.specs.State.{State, line, with_tables}
+use Rattle.model.specs.State.{State, line}
 use Rattle.model.specs.Deliveries.{Effect, to_all, with_finish}
 use Rattle.tables.specs.declared.numbers.Numbers.{Numbers}
 use Rattle.reaction.specs.declared.reaction.Post.{Post}
@@ -21,9 +21,12 @@ abbrev pub writer_changed : Writer → Option Writer → Writer
 writer_changed w v = unwrap_or v w
 
 abbrev pub with_records : {F : Type 0} → State F → Reaction F → State F
-with_records s r =
-    with_tables s (writer_changed s.writer r.writer) (changed s.replicas r.replica)
-    (changed s.readers r.reader) (changed s.marks r.mark) s.messages s.journal s.finished
+with_records s r = record s {
+  writer = writer_changed s.writer r.writer;
+  replicas = changed s.replicas r.replica;
+  readers = changed s.readers r.reader;
+  marks = changed s.marks r.mark;
+}
 
 abbrev pub with_finish_of : {F : Type 0} → State F → Option (Finish F) → State F
 with_finish_of s None = s

@@ -31,19 +31,19 @@ abbrev pub nothing : {F : Type 0} → Reaction F
 nothing = record { replica = None; mark = None; reader = None; writer = None; finish = None; post = Post.Nothing }
 
 abbrev pub posting : {F : Type 0} → Post F → Reaction F
-posting p = record { replica = None; mark = None; reader = None; writer = None; finish = None; post = p }
+posting p = record nothing { post = p }
 
 abbrev pub at_replica : {F : Type 0} → ℕ → Replica F → Option (ℕ × RelayMark) → Post F → Reaction F
 at_replica c x k p =
-    record { replica = Some (c, x); mark = k; reader = None; writer = None; finish = None; post = p }
+    record nothing { replica = Some (c, x); mark = k; post = p }
 
 abbrev pub at_reader : {F : Type 0} → ℕ → Reader F → Option (Finish F) → Post F → Reaction F
 at_reader r d f p =
-    record { replica = None; mark = None; reader = Some (r, d); writer = None; finish = f; post = p }
+    record nothing { reader = Some (r, d); finish = f; post = p }
 
 abbrev pub at_writer : {F : Type 0} → Writer → Option (Finish F) → Reaction F
 at_writer w f =
-    record { replica = None; mark = None; reader = None; writer = Some w; finish = f; post = Post.Nothing }
+    record nothing { writer = Some w; finish = f }
 
 abbrev pub post_all : {F : Type 0} → MessageKind → ℕ → Party → Held F → Post F
 post_all kind n from x = Post.All kind n from x.stamp x.figure
@@ -60,7 +60,7 @@ holding x = record { stamp = x.stamp; figure = x.figure }
 -- A replica after it was offered what m carries.
 abbrev pub offered : {F : Type 0} → Replica F → Message F → Replica F
 offered x m =
-    cond (nat_lt (rank x.stamp) (rank m.stamp)) (record { stamp = m.stamp; figure = m.figure; halted = x.halted }) x
+    cond (nat_lt (rank x.stamp) (rank m.stamp)) (record x { stamp = m.stamp; figure = m.figure }) x
 
 -- What m's receiver answers to the owner of the operation.
 abbrev pub answer_to : {F : Type 0} → Party → Message F → MessageKind → Held F → Post F

@@ -10,7 +10,6 @@ use Rattle.model.specs.declared.answers.Reply.{Reply}
 use Rattle.model.specs.declared.answers.Refusal.{Refusal}
 use Rattle.model.specs.Stamps.{Stamp, no_stamp}
 use Rattle.model.specs.State.{State, Held, stored, unused, new_reader}
-use Rattle.model.specs.Records.{reader_now}
 use Rattle.model.specs.Deliveries.{to_all}
 use Rattle.model.specs.Steps.{Outcome, tests, first_of, overfull, done, read, opening_phase, opening_message}
 use Rattle.tables.specs.declared.numbers.Numbers.{Numbers}
@@ -51,7 +50,14 @@ module _ {F : Type 0} (start : F) (rule : Rule) (n : Numbers) (t : Tables F) (ke
   shown_at z = record { stamp = z; figure = start }
 
   abbrev reader_at : Stamp → ℕ → Reader F → Reader F
-  reader_at z i d = reader_now d.halted i (opening_phase kind) 0 (shown_at z) 0
+  reader_at z i d = record d {
+    operation = i;
+    phase = opening_phase kind;
+    replies = 0;
+    best_stamp = z;
+    best_figure = start;
+    holders = 0;
+  }
 
   -- what it leaves, where the call comes to this outcome
   abbrev pub After : Outcome F → Stamp → ℕ → Reader F → Type 0

@@ -10,7 +10,7 @@ use Rattle.model.specs.declared.journal.OperationKind.{OperationKind}
 use Rattle.model.specs.declared.answers.Reply.{Reply}
 use Rattle.model.specs.declared.writer.Writer.{Writer}
 use Rattle.model.specs.declared.reader.Reader.{Reader}
-use Rattle.model.specs.State.{State, Held, stored, new_line, with_tables}
+use Rattle.model.specs.State.{State, Held, stored, new_line}
 use Rattle.model.specs.Deliveries.{to_all}
 use Rattle.model.specs.Steps.{Outcome, counted, start_event}
 use Rattle.tables.specs.declared.numbers.Numbers.{Numbers}
@@ -64,8 +64,12 @@ module _ {F : Type 0} (start : F) (rule : Rule) (n : Numbers) (t : Tables F) (ke
       taken = [];
       sent = sends;
       next =
-          with_tables s w t.replicas ds t.marks (take n.waiting t.messages ++ sends)
-          (counted start (take n.lines t.journal ++ new_line kind from (start_event s) x ∷ []) sends) n.finished;
+          record s {
+            writer = w;
+            readers = ds;
+            messages = take n.waiting t.messages ++ sends;
+            journal = counted start (take n.lines t.journal ++ new_line kind from (start_event s) x ∷ []) sends;
+          };
     }
 
     abbrev pub request : Message F
@@ -110,7 +114,7 @@ module _ {F : Type 0} (start : F) (rule : Rule) (n : Numbers) (t : Tables F) (ke
             answer = ap (λ (i : ℕ). Ok (Reply.Started i)) answer;
             state =
                 ap₂ (λ (ms : List (Message F)) (js : List (Operation F)).
-                with_tables s w t.replicas ds t.marks ms js n.finished)
+                record s { writer = w; readers = ds; messages = ms; journal = js })
                 (front ∙ sym messages_same) (lines ∙ sym counts);
             kept = kept_stays n w (n.waiting + n.replicas) (n.lines + 1) n.finished kept room (omega arith) stamp;
             sizes = sizes_stay n w (n.waiting + n.replicas) (n.lines + 1) n.finished;
