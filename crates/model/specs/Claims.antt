@@ -1,5 +1,6 @@
--- What a register promises of every history: its operations stand in one row, those that nothing holds up finish, and
--- their messages are few. It goes by the events of the history (the calls, their answers, and which messages were sent,
+-- What a register promises of every history: numbers tell its operations apart, a write finishes with what it wrote, the
+-- operations stand in one row, those that nothing holds up finish, their messages are few, and no call is declined for
+-- unsound tables. It goes by the events of the history (the calls, their answers, and which messages were sent,
 -- dropped and copied) and by the state after them (the lines of the journal, who is halted and what waits).
 use Rattle.std.specs.Prelude.{◌≡◌, ℕ, ◌+◌, ◌*◌, ◌<◌, ◌≤◌, min, true, false, cond, not, ◌&&◌, ◌⊎◌, List, [], ◌∷◌, length, Some, None, Option, ◌==◌, ◌≢◌, nat_lt, Ok, Err}
 use Rattle.quorum.specs.Sets.{Rule, Members}

@@ -107,7 +107,7 @@ read_sends kind sent =
     ∷ []
 
 -- A register with one operation in its journal, which started with x and for which so many messages were sent. All its
--- parties work, and none waits for a message.
+-- parties work, and no message waits.
 abbrev pub after_start : Rule → OperationKind → Party → Held ℕ → ℕ → State ℕ
 after_start rule kind owner x sent = with_journal (fresh rule 0 1 64 8) (
     record {

@@ -188,7 +188,7 @@ pub record WorkedExamples : Type 0 where
       (Call.Write first ∷ deliveries 5 (Call.Write second ∷ deliveries 6 []))
       ≡ Ok (Reply.Started 1) ∷ dones 4 (Ok (Reply.Finished 1 1 first 6 2)
       ∷ Ok (Reply.Started 2) ∷ dones 5 (Ok (Reply.Finished 2 2 second 6 2) ∷ []))
-  -- a quick read that hears of a write from the second replica it hears of puts it back: the first does not hold it
+  -- a quick read that learns of a write only from the second replica that answers puts it back: the first does not hold it
   pub puts_back : (start figure : ℕ)
       → answers (count_rule 3 1) start 1 1024 256
       (Call.Write figure ∷ Call.Deliver 1 ∷ Call.Read 0 ReadKind.Quick ∷ Call.Deliver 3 ∷ Call.Deliver 3 ∷ Call.Deliver 4

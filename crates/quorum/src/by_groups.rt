@@ -11,7 +11,7 @@ use crate::product::product_fits;
 use crate::refusal::RuleRefusal;
 use crate::system::QuorumSystem;
 
-/// Groups of as many replicas each, numbered group by group, over any two rules.
+/// Groups of equal size, numbered group by group, over any two rules.
 /// Round: the groups whose part is round by the inner rule are round by the outer one. Hold: likewise.
 #[derive(Drop)]
 pub struct Groups<O, I> {
@@ -24,6 +24,8 @@ pub struct Groups<O, I> {
 }
 
 impl<O: QuorumSystem + Drop, I: QuorumSystem + Drop> Groups<O, I> {
+    /// The rule over a group for each replica of the outer rule, each of the inner rule's size, or why there is none. It is
+    /// lawful if both are.
     pub fn new(outer: O, inner: I) -> Result<Groups<O, I>, RuleRefusal>
         ensures declines { result_err result ≡ product_refusal (O.QuorumSystem.size outer) (I.QuorumSystem.size inner) }
         ensures makes { IfOk result (λ v.

@@ -18,6 +18,7 @@ pub struct Lead<R> {
 }
 
 impl<R: QuorumSystem + Drop> Lead<R> {
+    /// The rule with this replica as the lead over a rule, or why there is none. It is lawful if that is.
     #[tactic(auto, using(crate::proofs::LeadLaws::lead_lawful))]
     pub fn new(below: R, lead: u32) -> Result<Lead<R>, RuleRefusal>
         ensures declines { result_err result ≡ lead_refusal (R.QuorumSystem.size below) lead }

@@ -20,7 +20,7 @@ pub fn hear<F: Copy>(reader: &mut Reader<F>, message: &Message<F>, sender: u32) 
     if reader.operation != message.operation || has(reader.replies, sender) {
         return false;
     }
-    // A rule of the project: phase and kind are matched together, in one match that changes the reader in place.
+    // Phase and kind are matched together, in one match that changes the reader in place (docs/DECISIONS.md, language forms).
     match (reader.phase, message.kind) {
         (Phase::First, MessageKind::Have) if message.stamp > reader.best_stamp => {
             reader.best_stamp = message.stamp;

@@ -8,7 +8,7 @@ use model::{Message, Operation, Writer};
 use quorum::{QuorumSystem, joined};
 
 /// Replica `sender` acknowledges the operation; true where that is the writer's current one.
-// A rule of the project: the writer's state is changed in place, as a reader's in `hear`. So the answer is a bool.
+// The writer's state is changed in place, as a reader's in `hear` (docs/DECISIONS.md, language forms). So the answer is a bool.
 pub fn acknowledge(writer: &mut Writer, operation: u16, sender: u32) -> bool
     requires { sender < 32 }
     ensures counted { result ≡ (writer.old.operation == operation) }

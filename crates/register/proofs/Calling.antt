@@ -110,6 +110,7 @@ module _ {R F : Type 0} {g : Ghosts R} (x : Register R F g) where
         (record {
           rule = refl;
           start = refl;
+          untouched = λ _. refl;
           carries = carries_declined _ _ _ _ c e x.kept all;
         })
 
@@ -120,6 +121,7 @@ module _ {R F : Type 0} {g : Ghosts R} (x : Register R F g) where
       plays_judged x' rule start numbers checked lengths d = record {
         rule = rule;
         start = start;
+        untouched = λ e. let f = fitting_tells x.numbers t checked.fitting in cc;
         carries = rw numbers (carries_judged _ _ _ _ c r n' t' checked lengths d);
       }
 

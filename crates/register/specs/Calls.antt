@@ -1,5 +1,5 @@
 -- What a call on the register comes to with these tables, and what it carries: the claims over every history that led there.
-use Rattle.std.specs.Prelude.{◌≡◌, Bool, true, cond, ◌&&◌, length, ◌==◌}
+use Rattle.std.specs.Prelude.{◌≡◌, Bool, true, false, cond, ◌&&◌, length, ◌==◌}
 use Rattle.quorum.specs.Sets.{Rule}
 use Rattle.quorum.specs.Meaning.{rule_of}
 use Rattle.quorum.specs.declared.system.QuorumSystem.{Ghosts}
@@ -31,11 +31,13 @@ answered rule start n t c =
 abbrev pub meaning : {R F : Type 0} {g : Ghosts R} → Register R F g → Rule
 meaning {g = g} x = rule_of g x.rule
 
--- A call on the register: it keeps its rule and its starting figure, and carries the claims.
+-- A call on the register: it keeps its rule and its starting figure, and carries the claims. Declined for a length, it keeps
+-- its numbers too, of which tables that are too short say nothing.
 pub record Plays {R F : Type 0} {g : Ghosts R} (c : Call F) (x : Register R F g) (t : Tables F) (r : Answer F)
     (x' : Register R F g) (t' : Tables F) : Type 0 where
   pub rule : x'.rule ≡ x.rule
   pub start : x'.start ≡ x.start
+  pub untouched : fits x.numbers t ≡ false → x'.numbers ≡ x.numbers
   pub carries : Carries (meaning x) x.start c (answered (meaning x) x.start x.numbers t c) x.numbers t r x'.numbers t'
 
 -- Tables that are no reason to decline a call.

@@ -14,6 +14,8 @@ use steps::{
 };
 use tables::tables_sound;
 
+// Each call first tests the tables, their lengths and then whether they are sound, and then its own refusals in their order
+// (docs/PROTOCOL.md). A declined call alters nothing.
 impl<R: QuorumSystem, F: Copy> Register<R, F> {
     /// Writes the figure: the writer sends it to every replica.
     pub fn write(

@@ -49,5 +49,6 @@ pub enum UnfoundedCause {
     Memory(AllocError),
 }
 
+mod closing;
 mod founding;
 mod stepping;
