@@ -106,6 +106,7 @@ module _ {F : Type 0} (q : Rule) (R : ℕ) (law : Lawful q) (start : F) (w : Wor
           lines = λ j. line_later q R start w v₂ up₂ g.core j (line s j) (g.lines j);
           at_work = g.at_work;
           told = told;
+          put = λ j l _. inl l;
           begun = λ j l. inl l;
           ended = λ j l. inl l;
         })

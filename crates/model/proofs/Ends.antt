@@ -1,7 +1,7 @@
 -- An operation that finishes keeps what is known.
-use Rattle.std.proofs.Common.{◌≡◌, ℕ, pred, ◌/◌, ◌<◌, ◌≤◌, ◌⊎◌, List, [], ◌∷◌, ◌++◌, length, get_or, set, sym, refl, ap, ◌∙◌, subst, inl, inr, arith, length-set, Ok}
+use Rattle.std.proofs.Common.{◌≡◌, ℕ, pred, ◌/◌, ◌<◌, ◌≤◌, true, false, ◌⊎◌, List, [], ◌∷◌, ◌++◌, length, get_or, set, sym, refl, ap, ◌∙◌, subst, inl, inr, arith, length-set, Ok}
 use Rattle.std.specs.List.{AllByRecursion as All}
-use Rattle.std.proofs.lemmas.Bool.{cases_eq}
+use Rattle.std.proofs.lemmas.Bool.{cases_eq, both_ways}
 use Rattle.quorum.specs.Sets.{Rule}
 use Rattle.quorum.specs.Laws.{Lawful}
 use Rattle.model.specs.declared.parties.Party.{Party}
@@ -21,7 +21,7 @@ use Rattle.std.proofs.lemmas.List.{get_or-set_same}
 use Rattle.model.proofs.Lists.{each_set}
 use Rattle.model.proofs.World.{put_same, put_other, put_each, Op, World, Onward, Later, OpGood}
 use Rattle.model.proofs.Moves.{changed, later_changed, core_changed, ended_op, onward_ended}
-use Rattle.model.proofs.Good.{code, apart_reader, current, Says, InPhase, Writing, LineGood, AtWork, Answers, Closes, Good, Kept, true_later, mark_later, messages_later, Still, phase_later, writing_later, line_later, advance}
+use Rattle.model.proofs.Good.{code, apart_reader, current, Says, InPhase, Writing, LineGood, AtWork, Answers, Closes, Puts, Good, Kept, true_later, mark_later, messages_later, Still, phase_later, writing_later, line_later, advance}
 use Rattle.model.proofs.Steps.{delivery, work_later}
 
 pub line_none : {F : Type 0} (w : World F) (o : Op) (l : Operation F) → o.stage ≡ 0 → LineGood w o l
@@ -59,6 +59,7 @@ module _ {F : Type 0} (q : Rule) (R : ℕ) (law : Lawful q) (start : F) (w : Wor
   -- Operation j finishes with a.
   module _ (j a : ℕ) (born : 1 ≤ (w.ops j).stage) (unfinished : (w.ops j).stage ≤ 2)
       (aims : 2 ≤ (w.ops j).stage → a ≡ (w.ops j).aim)
+      (put_out : (w.ops j).reading ≡ false → 2 ≤ (w.ops j).stage)
       (new : OpGood q (changed w j (ended_op (w.ops j) a w.now)) j (ended_op (w.ops j) a w.now)) where
     abbrev E : Op
     E = ended_op (w.ops j) a w.now
@@ -144,7 +145,7 @@ module _ {F : Type 0} (q : Rule) (R : ℕ) (law : Lawful q) (start : F) (w : Wor
             }) (h ++ ev ∷ [])
         ends fin ev sent exchanges no_sent reply_is place call_is width readers writer =
             advance q R start w v₃ up₃ s _ h ev g (record {
-              core = core_changed q law w j E on₃ new g.core;
+              core = core_changed q law w j E on₃ born (λ _. put_out) new g.core;
               start_is = g.start_is;
               now_is = refl;
               count_is = omega (arith, g.count_is, length-set s.journal (pred j) nl);
@@ -169,6 +170,9 @@ module _ {F : Type 0} (q : Rule) (R : ℕ) (law : Lawful q) (start : F) (w : Wor
                     });
                 sent_says = subst (All (λ a. Says q R v₃ a.kind a)) (sym no_sent) tt;
               };
+              put =
+                  put_each (λ i o. 2 ≤ o.stage → o.reading ≡ false → (2 ≤ (w.ops i).stage) ⊎ Puts i ev.sent) w.ops j E
+                  (λ _ r. inl (put_out r)) (λ i _ l _. inl l);
               begun =
                   put_each
                   (λ i o. 1 ≤ o.stage → (1 ≤ (w.ops i).stage) ⊎
@@ -185,7 +189,7 @@ module _ {F : Type 0} (q : Rule) (R : ℕ) (law : Lawful q) (start : F) (w : Wor
             })
 
   -- Reader r finishes operation j.
-  module _ (j r : ℕ) (owner_is : (w.ops j).owner ≡ Party.Reader r) (d : Reader F) (freed : d.operation ≡ 0) where
+  module _ (j r : ℕ) (owner_is : (w.ops j).owner ≡ Party.Reader r) (reads : (w.ops j).reading ≡ true) (d : Reader F) (freed : d.operation ≡ 0) where
     pub free_reader : current s.start s.writer.operation (set s.readers r d) (w.ops j).owner ≡ 0
     free_reader = subst (λ p. current s.start s.writer.operation (set s.readers r d) p ≡ 0) (sym owner_is)
         (each_set (λ k y. k ≡ r → y.operation ≡ 0) s.readers r d (new_reader s.start) (λ _. freed)
@@ -214,7 +218,7 @@ module _ {F : Type 0} (q : Rule) (R : ℕ) (law : Lawful q) (start : F) (w : Wor
       world = changed w j (ended_op (w.ops j) a w.now);
       good =
           let on = onward_ended (w.ops j) a w.now unfinished aims in
-          ends j a born unfinished aims new (ended (line s j) (finish_event s) x exchanges) refl x rank_is value_is
+          ends j a born unfinished aims (λ f. absurd (both_ways _ f reads)) new (ended (line s j) (finish_event s) x exchanges) refl x rank_is value_is
           refl
           (set s.readers r d) s.writer refl free_reader other_readers apart_owner (one_more s.finished) _
           (line s j).sent exchanges refl refl place refl

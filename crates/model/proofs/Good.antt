@@ -18,7 +18,7 @@ use Rattle.model.specs.State.{State, Held, index, unused, new_reader, new_mark, 
 use Rattle.model.specs.Deliveries.{Effect}
 use Rattle.model.specs.Steps.{Outcome}
 use Rattle.model.specs.History.{Event, History, event}
-use Rattle.model.specs.Claims.{At, In, Finishes}
+use Rattle.model.specs.Claims.{At, In, Finishes, Put}
 use Rattle.model.proofs.Lists.{length_push, at_old, at_new, at_cases}
 use Rattle.model.proofs.Ranks.{rank_start}
 use Rattle.model.proofs.World.{held, Op, World, Later, Written, written_later, Core}
@@ -159,8 +159,8 @@ module _ {F : Type 0} where
 
   pub record LineGood (w : World F) (o : Op) (l : Operation F) : Type 0 where
     pub owner_is : 1 ≤ o.stage → l.owner ≡ o.owner
-    pub write_rank : 1 ≤ o.stage → o.reading ≡ false → rank l.stamp ≡ o.aim
-    pub write_value : 1 ≤ o.stage → o.reading ≡ false
+    pub write_rank : 2 ≤ o.stage → o.reading ≡ false → rank l.stamp ≡ o.aim
+    pub write_value : 2 ≤ o.stage → o.reading ≡ false
         → record { stamp = l.stamp; figure = l.figure } ≡ w.value o.aim
 
   -- What the party of operation j, which is o, is at: j, if it is not finished, and no older one.
@@ -181,20 +181,17 @@ module _ {F : Type 0} where
   abbrev pub Puts : ℕ → List (Message F) → Type 0
   Puts j sent = (a : Message F) × In a sent × (a.kind ≡ MessageKind.Put) × (a.operation ≡ j)
 
-  pub record OpensWrite (w : World F) (j : ℕ) (f : F) (sent : List (Message F)) : Type 0 where
+  pub record OpensWrite (w : World F) (j : ℕ) (f : F) : Type 0 where
     pub writes : (w.ops j).reading ≡ false
-    pub settled : 2 ≤ (w.ops j).stage
-    pub figure_is : (w.value (w.ops j).aim).figure ≡ f
-    pub aim_low : (w.ops j).aim ≤ w.last
+    pub given_is : w.given j ≡ f
     pub owner_is : (w.ops j).owner ≡ Party.Writer
-    pub puts : Puts j sent
 
   pub record OpensRead (w : World F) (j r : ℕ) : Type 0 where
     pub reads : (w.ops j).reading ≡ true
     pub owner_is : (w.ops j).owner ≡ Party.Reader r
 
   abbrev pub Opens : World F → ℕ → Call F → List (Message F) → Type 0
-  Opens w j (Call.Write f) sent = OpensWrite w j f sent
+  Opens w j (Call.Write f) sent = OpensWrite w j f
   Opens w j (Call.Read r kind) sent = OpensRead w j r
   Opens w j (Call.Deliver place) sent = ⊥
   Opens w j (Call.Drop place) sent = ⊥
@@ -252,6 +249,8 @@ module _ {F : Type 0} where
       pub at_work : (j : ℕ) → AtWork s.start s.writer.operation s.readers j (w.ops j)
       pub told : (m : ℕ) (e : Event F) → At h m e → Told q R w m e
       pub begun : (j : ℕ) → 1 ≤ (w.ops j).stage → BegunAt h (w.ops j).begun j
+      -- the messages of a write whose stamp is settled went out
+      pub put : (j : ℕ) → 2 ≤ (w.ops j).stage → (w.ops j).reading ≡ false → (a : Message F) × Put h j a
       pub ended : (j : ℕ) → 3 ≤ (w.ops j).stage → Finishes h (w.ops j).ended j (shown w j)
 
     -- After an effect, before what it sends joins the other messages.
@@ -267,7 +266,7 @@ module _ {F : Type 0} where
       pub true_later : {s : Stamp} {f : F} → True w s f → True v s f
       true_later {s} t = record {
         written = written_later q w v up t.written;
-        is = t.is ∙ sym (up.same_value (rank s) t.written.low);
+        is = t.is ∙ sym (up.same_value (rank s) t.written);
       }
 
       store_later : (m : Message F) → Store q w m → Store q v m
@@ -389,23 +388,16 @@ module _ {F : Type 0} where
           record {
             owner_is = x.owner_is;
             write_rank = x.write_rank;
-            write_value = λ s e. x.write_value s e ∙ sym (up.same_value (w.ops j).aim (o.aim_written (o.write_settled s e)).low);
+            write_value = λ s e. x.write_value s e ∙ sym (up.same_value (w.ops j).aim (o.aim_written s));
           }
 
       opens_later : (j : ℕ) → 1 ≤ (w.ops j).stage → (c : Call F) (sent : List (Message F)) → Opens w j c sent
           → Opens v j c sent
-      opens_later j b (Call.Write f) sent x =
-          let u = up.ops_up j in
-          let e = u.same_aim x.settled in
-          record {
-            writes = u.same_reading b ∙ x.writes;
-            settled = omega (arith, x.settled, u.stage_up);
-            figure_is =
-                ap (λ y. y.figure) (ap v.value e ∙ up.same_value (w.ops j).aim x.aim_low) ∙ x.figure_is;
-            aim_low = omega (arith, x.aim_low, up.last_up);
-            owner_is = u.same_owner b ∙ x.owner_is;
-            puts = x.puts;
-          }
+      opens_later j b (Call.Write f) sent x = let u = up.ops_up j in record {
+        writes = u.same_reading b ∙ x.writes;
+        given_is = up.same_given j b ∙ x.given_is;
+        owner_is = u.same_owner b ∙ x.owner_is;
+      }
       opens_later j b (Call.Read r kind) sent x = let u = up.ops_up j in record { reads = u.same_reading b ∙ x.reads; owner_is = u.same_owner b ∙ x.owner_is }
       opens_later j b (Call.Deliver place) sent x = x
       opens_later j b (Call.Drop place) sent x = x
@@ -428,7 +420,7 @@ module _ {F : Type 0} where
             aim_is = a ∙ x.aim_is;
             value_is =
                 ap v.value a ∙ up.same_value (w.ops j).aim
-                ((g.op j).aim_written (omega (arith, x.stage_is))).low ∙ x.value_is;
+                ((g.op j).aim_written (omega (arith, x.stage_is))) ∙ x.value_is;
           }
       answers_later g m c sent (Ok Reply.Done) x = tt
       answers_later g m c sent (Err e) x = tt
@@ -457,6 +449,7 @@ module _ {F : Type 0} where
         pub lines : (j : ℕ) → LineGood v (v.ops j) (line s j)
         pub at_work : (j : ℕ) → AtWork s.start s.writer.operation s.readers j (v.ops j)
         pub told : Told q R v (length h) e
+        pub put : (j : ℕ) → 2 ≤ (v.ops j).stage → (v.ops j).reading ≡ false → (2 ≤ (w.ops j).stage) ⊎ Puts j e.sent
         pub begun : (j : ℕ) → 1 ≤ (v.ops j).stage
             → (1 ≤ (w.ops j).stage) ⊎ (((v.ops j).begun ≡ length h) × (e.reply ≡ Ok (Reply.Started j)))
         pub ended : (j : ℕ) → 3 ≤ (v.ops j).stage
@@ -466,7 +459,7 @@ module _ {F : Type 0} where
           → Good v s' (h ++ e ∷ [])
       advance s s' h e g n = record {
         core = n.core;
-        first_value = up.same_value 0 (omega arith) ∙ g.first_value;
+        first_value = up.same_value 0 (record { low = omega arith; by_one = λ p. absurd (omega arith) }) ∙ g.first_value;
         start_is = n.start_is;
         now_is = omega (arith, n.now_is, g.now_is, length_push h e);
         count_is = n.count_is;
@@ -485,6 +478,11 @@ module _ {F : Type 0} where
           | inl o ↦ told_later g.core m x (g.told m x o)
           | inr d ↦ subst (λ y. Told q R v m y) d.1 (subst (λ y. Told q R v y e) (sym d.0) n.told)
         ];
+        put = λ j l r. elim (n.put j l r) [
+          | inl o ↦ let p = g.put j o (sym ((up.ops_up j).same_reading (omega arith)) ∙ r) in
+              let t = p.1 in (p.0, (t.0, t.1, at_old h e t.0 t.1 t.2, t.3, t.4, t.5))
+          | inr p ↦ (p.0, (length h, e, at_new h e, p.1, p.2, p.3))
+        ];
         begun = λ j l. elim (n.begun j l) [
           | inl o ↦ let b =
               g.begun j o in rw ((up.ops_up j).same_begun o)
@@ -496,7 +494,7 @@ module _ {F : Type 0} where
               let b = g.ended j o in
               let a = (up.ops_up j).same_aim (omega arith) in
               let k : shown v j ≡ shown w j = ap v.value a ∙ up.same_value (w.ops j).aim
-              ((g.core.op j).aim_written (omega arith)).low in
+              ((g.core.op j).aim_written (omega arith)) in
               rw ((up.ops_up j).same_ended o)
               (subst (Finishes (h ++ e ∷ []) (w.ops j).ended j) (sym k)
               (b.0, b.1, b.2, b.3, at_old h e (w.ops j).ended b.0 b.4, b.5, b.6))

@@ -18,7 +18,7 @@ use Rattle.model.proofs.Sets.{none, joined_cases}
 use Rattle.model.proofs.Lists.{each_set_all, all_to_all}
 use Rattle.model.proofs.World.{put_same, put_each, held_from, not_held, Op, World, Onward, Later}
 use Rattle.model.proofs.Moves.{ticked, later_ticked, changed, later_changed, core_changed, onward_settled, good_settled, good_quick, good_ended}
-use Rattle.model.proofs.Good.{current, Ack, Report, Says, First, Second, InPhase, LineGood, AtWork, Closes, Good, Kept, true_later, mark_later, messages_later, phase_later, line_later, advance}
+use Rattle.model.proofs.Good.{current, Ack, Report, Says, First, Second, InPhase, LineGood, AtWork, Closes, Puts, Good, Kept, true_later, mark_later, messages_later, phase_later, line_later, advance}
 use Rattle.model.proofs.Steps.{delivery, same_current, work_later, old_messages, old_reader, old_writer, old_figures, ticks, kept_quiet}
 use Rattle.model.proofs.World as world
 use Rattle.model.proofs.Moves as moves
@@ -63,7 +63,7 @@ module _ {F : Type 0} (q : Rule) (R : ℕ) (law : Lawful q) (start : F) (w : Wor
         let hold = held_from q law (bits d.holders) w.at (rank d.best_stamp) k x.holding in
         let new = good_quick q law w g.core j (rank d.best_stamp) st x.reads x.true_figure.written
         (above_best b) hold in
-        read_ends q R law start w s h g j r x.owner_is (reader_freed d) refl (rank d.best_stamp) (omega arith)
+        read_ends q R law start w s h g j r x.owner_is x.reads (reader_freed d) refl (rank d.best_stamp) (omega arith)
         (omega arith) (λ l. absurd (omega arith)) new (best d) refl x.true_figure.is refl place taken 2
 
     module _ (b : q.round (bits d.replies) ≡ true) where
@@ -110,7 +110,7 @@ module _ {F : Type 0} (q : Rule) (R : ℕ) (law : Lawful q) (start : F) (w : Wor
         world = v₄;
         good = advance q R start w v₄ up₄ s _ h _ g (record {
           core =
-              core_changed q law w j o₄ on₄
+              core_changed q law w j o₄ on₄ (omega (arith, x.stage_is)) (λ _ f. absurd (both_ways _ f x.reads))
               (good_settled q law w g.core j (rank d.best_stamp) x.stage_is x.reads
               x.true_figure.written (above_best b))
               g.core;
@@ -148,6 +148,9 @@ module _ {F : Type 0} (q : Rule) (R : ℕ) (law : Lawful q) (start : F) (w : Wor
                   to_low = l;
                 });
           };
+          put =
+              put_each (λ i o. 2 ≤ o.stage → o.reading ≡ false → (2 ≤ (w.ops i).stage) ⊎ Puts i goes.sent) w.ops j o₄
+              (λ _ f. absurd (both_ways _ f x.reads)) (λ i _ l _. inl l);
           begun =
               put_each
               (λ i o. 1 ≤ o.stage → (1 ≤ (w.ops i).stage) ⊎
@@ -197,7 +200,7 @@ module _ {F : Type 0} (q : Rule) (R : ℕ) (law : Lawful q) (start : F) (w : Wor
         let hold = held_from q law (bits d.replies) w.at (rank d.best_stamp) (law.holds _ b) x.placed
         in
         let new = good_ended q law w g.core d.operation (rank d.best_stamp) st x.aims hold in
-        read_ends q R law start w s h g d.operation r x.owner_is (reader_freed d) refl (rank d.best_stamp)
+        read_ends q R law start w s h g d.operation r x.owner_is x.reads (reader_freed d) refl (rank d.best_stamp)
         (omega arith) (omega arith) (λ _. x.aims) new (best d) refl x.true_figure.is refl place taken 4
 
     after_ack : K (after_last q s r d 4)

@@ -59,7 +59,7 @@ module _ {F : Type 0} (q : Rule) (R : ℕ) (law : Lawful q) (start : F) (w : Wor
   abbrev keep : ℕ → Bool
   keep j =
       leb 3 (op j).stage ||
-      (leb 1 (op j).stage && (not (op j).reading && some (answers (op j).aim) w.count))
+      (leb 2 (op j).stage && (not (op j).reading && some (answers (op j).aim) w.count))
 
   row : List ℕ
   row = arrange point key keep w.count
@@ -77,7 +77,7 @@ module _ {F : Type 0} (q : Rule) (R : ℕ) (law : Lawful q) (start : F) (w : Wor
       (leb-true 3 (op i).stage a.0, b.0, eqb-true (op i).aim t b.1)
 
   kept : (j : ℕ) → keep j ≡ true → Kept j
-  kept j e = elim (or_cases (leb 3 (op j).stage) (leb 1 (op j).stage && (not (op j).reading && some (answers (op j).aim) w.count)) e) [
+  kept j e = elim (or_cases (leb 3 (op j).stage) (leb 2 (op j).stage && (not (op j).reading && some (answers (op j).aim) w.count)) e) [
     | inl a ↦ let l =
         leb-true 3 (op j).stage a in record {
           settled = omega arith;
@@ -85,14 +85,14 @@ module _ {F : Type 0} (q : Rule) (R : ℕ) (law : Lawful q) (start : F) (w : Wor
           why = inl l;
         }
     | inr a ↦
-        let b = and_parts (leb 1 (op j).stage) (not (op j).reading && some (answers (op j).aim) w.count) a
+        let b = and_parts (leb 2 (op j).stage) (not (op j).reading && some (answers (op j).aim) w.count) a
         in
         let c = and_parts (not (op j).reading) (some (answers (op j).aim) w.count) b.1 in
         let r = not-true (op j).reading c.0 in
         let i = some_true (answers (op j).aim) w.count c.1 in
         let k = answered (op j).aim i.0 i.1 in
         record {
-          settled = (g.core.op j).write_settled (leb-true 1 (op j).stage b.0) r;
+          settled = leb-true 2 (op j).stage b.0;
           held_aim = subst (λ t. held q w.at t ≡ true) k.2 ((g.core.op i.0).kept k.0);
           why = elim (cases_lt (op j).stage 3) [
             | inl z ↦ inr (omega arith, r, (i.0, k.0, k.1, k.2))
@@ -104,11 +104,11 @@ module _ {F : Type 0} (q : Rule) (R : ℕ) (law : Lawful q) (start : F) (w : Wor
   keep_over : (j : ℕ) → 3 ≤ (op j).stage → keep j ≡ true
   keep_over j l = or_left (leb 3 (op j).stage) _ (le-leb 3 (op j).stage l)
 
-  keep_seen : (j i : ℕ) → 1 ≤ (op j).stage → (op j).reading ≡ false → 3 ≤ (op i).stage → (op i).reading ≡ true
+  keep_seen : (j i : ℕ) → 2 ≤ (op j).stage → (op j).reading ≡ false → 3 ≤ (op i).stage → (op i).reading ≡ true
       → (op i).aim ≡ (op j).aim → keep j ≡ true
   keep_seen j i b r l x a =
       or_right (leb 3 (op j).stage) _
-      (and_from (leb 1 (op j).stage) _ (le-leb 1 (op j).stage b)
+      (and_from (leb 2 (op j).stage) _ (le-leb 2 (op j).stage b)
       (and_from (not (op j).reading) _ (not_from_false (op j).reading r)
       (true_some (answers (op j).aim) w.count i ((g.core.op i).counted (omega arith))
       (and_from (leb 3 (op i).stage) _ (le-leb 3 (op i).stage l)
@@ -198,8 +198,8 @@ module _ {F : Type 0} (q : Rule) (R : ℕ) (law : Lawful q) (start : F) (w : Wor
           | inl l ↦
               let a = w.wrote (op n).aim in
               let o = g.core.source (op n).aim (((g.core.op n).aim_written k.settled).by_one (omega arith)) in
-              let b : 1 ≤ (op a).stage = omega (arith, o.settled) in
-              let m = to_row a b (keep_seen a n b o.writing l r (sym o.aims)) in
+              let b : 2 ≤ (op a).stage = o.settled in
+              let m = to_row a (omega arith) (keep_seen a n b o.writing l r (sym o.aims)) in
               inr (a, m, o.writing, o.aims)
         ]
       ]
@@ -214,7 +214,7 @@ module _ {F : Type 0} (q : Rule) (R : ℕ) (law : Lawful q) (start : F) (w : Wor
   plays : Plays h (unused start) row
   plays = subst (λ y. Plays h y row) g.first_value
       (row_plays reads_of aim_of h w.value 0 row ready
-      (λ n i r. writes q R law start w s h g n (omega (arith, (in_row n i).settled)) r)
+      (λ n i r. writes q R law start w s h g n (in_row n i).settled r)
       (λ n i r. elim (in_row n i).why
       [ inl l ↦ shows q R law start w s h g n l r | inr f ↦ absurd (both_ways (op n).reading f.1 r) ]))
 
@@ -229,7 +229,7 @@ module _ {F : Type 0} (q : Rule) (R : ℕ) (law : Lawful q) (start : F) (w : Wor
               (λ f. let y = ends_at q R law start w s h g f.0 n f.1 f.2 in omega (arith, y.stage_is, r.0)),
               (
                 shown w n,
-                writes q R law start w s h g n (omega (arith, k.settled)) r.1,
+                writes q R law start w s h g n k.settled r.1,
                 (
                   j.0,
                   subst (λ t. Shows h j.0 (w.value t)) j.3
@@ -247,7 +247,7 @@ module _ {F : Type 0} (q : Rule) (R : ℕ) (law : Lawful q) (start : F) (w : Wor
       let i = d.1.2.0 in
       let sh = d.1.2.1 in
       let y = ends_at q R law start w s h g sh.1.0 i x sh.1.1 in
-      to_row n v.0
+      to_row n (omega (arith, v.0))
       (keep_seen n i v.0 v.1 y.stage_is (read_is q R law start w s h g i x sh) (y.aim_is ∙ v.2))
 
   in_time : (i j : ℕ) → In i row → In j row → Precedes h i j → Before i j row

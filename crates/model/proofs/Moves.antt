@@ -1,11 +1,11 @@
 -- The ways in which a world goes on, and that each keeps what is known of it.
-use Rattle.std.proofs.Common.{◌≡◌, ℕ, suc, ◌<◌, ◌≤◌, true, false, cond, refl, ap, ◌∙◌, inl, inr, arith}
+use Rattle.std.proofs.Common.{◌≡◌, ℕ, suc, ◌<◌, ◌≤◌, max, true, false, cond, sym, refl, ap, ◌∙◌, inl, inr, arith}
 use Rattle.std.proofs.lemmas.Bool.{cond_both, cond-true, cond-false, cases_eq, cases_Bool, both_ways}
 use Rattle.quorum.specs.Sets.{Rule}
 use Rattle.quorum.specs.Laws.{Lawful}
 use Rattle.model.specs.declared.parties.Party.{Party}
 use Rattle.model.specs.State.{Held}
-use Rattle.model.proofs.World.{put_at, put_same, put_other, put_each, held, held_up, held_low, Op, World, Onward, onward_same, Later, Written, OpGood, Source, Core, op_later}
+use Rattle.model.proofs.World.{put_at, put_same, put_other, put_each, held, held_up, Op, World, Onward, onward_same, Later, Written, OpGood, Source, Core, op_later}
 
 -- Another call, and no more.
 abbrev pub ticked : {F : Type 0} → World F → World F
@@ -17,6 +17,7 @@ ticked w = record {
   ops = w.ops;
   value = w.value;
   wrote = w.wrote;
+  given = w.given;
   since = w.since;
 }
 
@@ -30,6 +31,7 @@ changed w k o = record {
   ops = put_at w.ops k o;
   value = w.value;
   wrote = w.wrote;
+  given = w.given;
   since = w.since;
 }
 
@@ -89,6 +91,7 @@ raised q w bt = record {
   ops = w.ops;
   value = w.value;
   wrote = w.wrote;
+  given = w.given;
   since = λ t. cond (held q w.at t) (w.since t) w.now;
 }
 
@@ -124,6 +127,7 @@ read_begun w owner = record {
   ops = put_at w.ops (suc w.count) (read_op w owner);
   value = w.value;
   wrote = w.wrote;
+  given = w.given;
   since = w.since;
 }
 
@@ -131,20 +135,21 @@ read_begun w owner = record {
 abbrev pub write_begun : {F : Type 0} → World F → Party → ℕ → Held F → World F
 write_begun w owner a x = record {
   now = suc w.now;
-  last = a;
+  last = max w.last a;
   count = suc w.count;
   at = w.at;
   ops = put_at w.ops (suc w.count) (write_op w owner a);
   value = put_at w.value a x;
   wrote = put_at w.wrote a (suc w.count);
+  given = put_at w.given (suc w.count) x.figure;
   since = w.since;
 }
 
 module _ (q : Rule) {F : Type 0} (law : Lawful q) where
-  pub source_later : (w v : World F) → Later q w v → (t : ℕ) → Source q w t (w.ops (w.wrote t))
+  pub source_later : (w v : World F) → Later q w v → (t : ℕ) → 0 < w.wrote t → Source q w t (w.ops (w.wrote t))
       → Source q v t (v.ops (v.wrote t))
-  source_later w v up t s =
-      rw (up.same_wrote t s.low)
+  source_later w v up t p s =
+      rw (up.same_wrote t (record { low = s.low; by_one = λ _. p }))
       (let u = up.ops_up (w.wrote t) in
       record {
         low = omega (arith, s.low, up.last_up);
@@ -162,6 +167,7 @@ module _ (q : Rule) {F : Type 0} (law : Lawful q) where
     ops_up = λ j. onward_same (w.ops j);
     same_value = λ t _. refl;
     same_wrote = λ t _. refl;
+    same_given = λ j _. refl;
     since_old = λ t _. refl;
     since_new = λ t n h. absurd (both_ways (held q w.at t) n h);
   }
@@ -172,7 +178,8 @@ module _ (q : Rule) {F : Type 0} (law : Lawful q) where
     paced = g.paced;
     past = λ t h. omega (arith, g.past t h);
     op = λ j. op_later q law w (ticked w) (later_ticked w) j (w.ops j) (g.op j);
-    source = λ t b. source_later w (ticked w) (later_ticked w) t (g.source t b);
+    figures = g.figures;
+    source = λ t b. source_later w (ticked w) (later_ticked w) t b (g.source t b);
   }
 
   pub later_changed : (w : World F) (k : ℕ) (o : Op) → Onward (w.ops k) o → Later q w (changed w k o)
@@ -184,20 +191,26 @@ module _ (q : Rule) {F : Type 0} (law : Lawful q) where
     ops_up = put_each (λ j p. Onward (w.ops j) p) w.ops k o u (λ j _. onward_same (w.ops j));
     same_value = λ t _. refl;
     same_wrote = λ t _. refl;
+    same_given = λ j _. refl;
     since_old = λ t _. refl;
     since_new = λ t n h. absurd (both_ways (held q w.at t) n h);
   }
 
-  pub core_changed : (w : World F) (k : ℕ) (o : Op) → Onward (w.ops k) o → OpGood q (changed w k o) k o → Core q w
+  pub core_changed : (w : World F) (k : ℕ) (o : Op) → Onward (w.ops k) o → 1 ≤ (w.ops k).stage
+      → (2 ≤ o.stage → o.reading ≡ false → 2 ≤ (w.ops k).stage)
+      → OpGood q (changed w k o) k o → Core q w
       → Core q (changed w k o)
-  core_changed w k o u n g = record {
+  core_changed w k o u born wr n g = record {
     low = g.low;
     paced = g.paced;
     past = λ t h. omega (arith, g.past t h);
     op =
         put_each (λ j p. OpGood q (changed w k o) j p) w.ops k o n
         (λ j _. op_later q law w (changed w k o) (later_changed w k o u) j (w.ops j) (g.op j));
-    source = λ t b. source_later w (changed w k o) (later_changed w k o u) t (g.source t b);
+    figures = put_each (λ j p. 2 ≤ p.stage → p.reading ≡ false → (w.value p.aim).figure ≡ w.given j) w.ops k o
+        (λ a b. let c = wr a b in ap (λ t. (w.value t).figure) (u.same_aim c) ∙ g.figures k c (sym (u.same_reading born) ∙ b))
+        (λ j _. g.figures j);
+    source = λ t b. source_later w (changed w k o) (later_changed w k o u) t b (g.source t b);
   }
 
   module _ (w : World F) (g : Core q w) (k s : ℕ) where
@@ -213,7 +226,6 @@ module _ (q : Rule) {F : Type 0} (law : Lawful q) where
           in_past = λ _. omega (arith, o.in_past b);
           grown = λ _. o.grown b;
           fresh_since = λ _. o.fresh_since b;
-          write_settled = λ _ _. omega arith;
           aim_written = λ _. record { low = l.low; by_one = l.by_one };
           read_aim = λ _ _. n;
           write_aim = λ _ f. absurd (both_ways (w.ops k).reading f r);
@@ -237,7 +249,6 @@ module _ (q : Rule) {F : Type 0} (law : Lawful q) where
           in_past = λ _. omega (arith, o.in_past b);
           grown = λ _. o.grown b;
           fresh_since = λ _. o.fresh_since b;
-          write_settled = λ _ _. omega arith;
           aim_written = λ _. record { low = l.low; by_one = l.by_one };
           read_aim = λ _ _. n;
           write_aim = λ _ f. absurd (both_ways (w.ops k).reading f r);
@@ -261,7 +272,6 @@ module _ (q : Rule) {F : Type 0} (law : Lawful q) where
           in_past = λ _. omega (arith, o.in_past b);
           grown = λ _. o.grown b;
           fresh_since = λ _. o.fresh_since b;
-          write_settled = λ _ _. omega arith;
           aim_written = λ _. let x = o.aim_written c in rw a (record { low = x.low; by_one = x.by_one });
           read_aim = λ _ r t l. o.read_aim c r t (omega arith);
           write_aim = λ _ f t l. o.write_aim c f t (omega arith);
@@ -282,6 +292,7 @@ module _ (q : Rule) {F : Type 0} (law : Lawful q) where
       ops_up = λ j. onward_same (w.ops j);
       same_value = λ t _. refl;
       same_wrote = λ t _. refl;
+      same_given = λ j _. refl;
       since_old = λ t h. cond-true (held q w.at t) (w.since t) w.now h;
       since_new = λ t n h. omega (arith, cond-false (held q w.at t) (w.since t) w.now n);
     }
@@ -296,7 +307,8 @@ module _ (q : Rule) {F : Type 0} (law : Lawful q) where
       ];
       past = λ t h. omega (arith, past t);
       op = λ j. op_later q law w (raised q w bt) later_raised j (w.ops j) (g.op j);
-      source = λ t b. source_later w (raised q w bt) later_raised t (g.source t b);
+      figures = g.figures;
+      source = λ t b. source_later w (raised q w bt) later_raised t b (g.source t b);
     }
       where
         past : (t : ℕ) → cond (held q w.at t) (w.since t) w.now ≤ w.now
@@ -332,6 +344,7 @@ module _ (q : Rule) {F : Type 0} (law : Lawful q) where
           (onward_born (read_op w owner)) (λ j _. onward_same (w.ops j));
       same_value = λ t _. refl;
       same_wrote = λ t _. refl;
+      same_given = λ j _. refl;
       since_old = λ t _. refl;
       since_new = λ t n h. absurd (both_ways (held q w.at t) n h);
     }
@@ -343,7 +356,9 @@ module _ (q : Rule) {F : Type 0} (law : Lawful q) where
       past = λ t h. omega (arith, g.past t h);
       op = put_each (λ j p. OpGood q (read_begun w owner) j p) w.ops (suc w.count) (read_op w owner) new
           (λ j _. op_later q law w (read_begun w owner) (later_read owner) j (w.ops j) (g.op j));
-      source = λ t b. source_later w (read_begun w owner) (later_read owner) t (g.source t b);
+      figures = put_each (λ j p. 2 ≤ p.stage → p.reading ≡ false → (w.value p.aim).figure ≡ w.given j) w.ops (suc w.count) (read_op w owner)
+          (λ a. absurd (omega arith)) (λ j _. g.figures j);
+      source = λ t b. source_later w (read_begun w owner) (later_read owner) t b (g.source t b);
     }
       where
         new : OpGood q (read_begun w owner) (suc w.count) (read_op w owner)
@@ -353,7 +368,6 @@ module _ (q : Rule) {F : Type 0} (law : Lawful q) where
           in_past = λ _. omega arith;
           grown = λ _ c. omega arith;
           fresh_since = λ _ t n h. absurd (both_ways (held q w.at t) n h);
-          write_settled = λ _ f. absurd (both_ways true f refl);
           aim_written = λ l. absurd (omega arith);
           read_aim = λ l. absurd (omega arith);
           write_aim = λ l. absurd (omega arith);
@@ -364,13 +378,17 @@ module _ (q : Rule) {F : Type 0} (law : Lawful q) where
           ended_after = λ l. absurd (omega arith);
         }
 
-  -- A stamp above the last.
-  module _ (w : World F) (g : Core q w) (owner : Party) (a : ℕ) (above : w.last < a) (x : Held F) where
+  -- A stamp that nobody wrote, at and above which nothing is held. It need not be above the last one.
+  module _ (w : World F) (g : Core q w) (owner : Party) (a : ℕ) (positive : 0 < a) (fresh : w.wrote a ≡ 0)
+      (unheld : (t : ℕ) → a ≤ t → held q w.at t ≡ false) (x : Held F) where
     abbrev o : Op
     o = write_op w owner a
 
     abbrev v : World F
     v = write_begun w owner a x
+
+    other : (t : ℕ) → Written w t → t ≡ a → ⊥
+    other t l e = let z = ap w.wrote e in omega (arith, l.by_one (omega arith))
 
     pub later_write : Later q w v
     later_write = record {
@@ -381,8 +399,9 @@ module _ (q : Rule) {F : Type 0} (law : Lawful q) where
       ops_up =
           put_each (λ j p. Onward (w.ops j) p) w.ops (suc w.count) o (onward_born w g o)
           (λ j _. onward_same (w.ops j));
-      same_value = λ t l. put_other w.value a x t (λ e. omega arith);
-      same_wrote = λ t l. put_other w.wrote a (suc w.count) t (λ e. omega arith);
+      same_value = λ t l. put_other w.value a x t (other t l);
+      same_wrote = λ t l. put_other w.wrote a (suc w.count) t (other t l);
+      same_given = λ j l. put_other w.given (suc w.count) x.figure j (λ e. omega (arith, (g.op j).counted l));
       since_old = λ t _. refl;
       since_new = λ t n h. absurd (both_ways (held q w.at t) n h);
     }
@@ -393,7 +412,8 @@ module _ (q : Rule) {F : Type 0} (law : Lawful q) where
     -- An older stamp was written by an older operation.
     old_source : (t : ℕ) → (t ≡ a → ⊥) → 0 < v.wrote t → Source q v t (v.ops (v.wrote t))
     old_source t n p =
-        source_later w v later_write t (g.source t (omega (arith, put_other w.wrote a (suc w.count) t n)))
+        let z : 0 < w.wrote t = omega (arith, put_other w.wrote a (suc w.count) t n) in
+        source_later w v later_write t z (g.source t z)
 
     pub core_write : Core q v
     core_write = record {
@@ -403,18 +423,16 @@ module _ (q : Rule) {F : Type 0} (law : Lawful q) where
       op =
           put_each (λ j p. OpGood q v j p) w.ops (suc w.count) o new
           (λ j _. op_later q law w v later_write j (w.ops j) (g.op j));
+      figures = put_each (λ j p. 2 ≤ p.stage → p.reading ≡ false → (v.value p.aim).figure ≡ v.given j) w.ops (suc w.count) o
+          (λ _ _. ap (λ y. y.figure) (put_same w.value a x) ∙ sym (put_same w.given (suc w.count) x.figure))
+          (λ j n l b. ap (λ y. y.figure) (later_write.same_value (w.ops j).aim ((g.op j).aim_written l)) ∙ g.figures j l b
+          ∙ sym (later_write.same_given j (omega arith)));
       source = λ t p. elim (cases_eq t a) [
         | inl e ↦ rw (e, wrote_new, put_same w.ops (suc w.count) o) (record { low = omega arith; settled = omega arith; writing = refl; aims = refl })
         | inr n ↦ old_source t n p
       ];
     }
       where
-        unheld : (t : ℕ) → a ≤ t → held q w.at t ≡ false
-        unheld t l = elim (cases_Bool (held q w.at t)) [
-          | inl h ↦ let m = held_low q law w.at t w.last g.low h in absurd (omega arith)
-          | inr h ↦ h
-        ]
-
         new : OpGood q v (suc w.count) o
         new = record {
           named = λ _. omega arith;
@@ -422,7 +440,6 @@ module _ (q : Rule) {F : Type 0} (law : Lawful q) where
           in_past = λ _. omega arith;
           grown = λ _ c. omega arith;
           fresh_since = λ _ t n h. absurd (both_ways (held q w.at t) n h);
-          write_settled = λ _ f. omega arith;
           aim_written = λ _. record { low = omega arith; by_one = λ _. omega (arith, wrote_new) };
           read_aim = λ _ r. absurd (both_ways false refl r);
           write_aim = λ _ _. unheld;

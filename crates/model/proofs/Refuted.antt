@@ -21,6 +21,8 @@ use Rattle.model.proofs.Ranks.{rank_next}
 use Rattle.model.proofs.Slate.{shows_after, Tells, write_tells, read_tells, finish_tells, written, writes_from, ended}
 use Rattle.model.proofs.Slate.{finish_at, write_at, read_at}
 use Rattle.model.proofs.FallenBack.{only_newest}
+use Rattle.model.proofs.Ahead.{never_ahead}
+use Rattle.model.proofs.Stranded.{not_stranded}
 
 -- NUMBERS
 
@@ -184,7 +186,9 @@ refutable = record {
   shows_newest = only_newest;
   forgets = λ r. rises no_stamp first (rank_next no_stamp) (only_written no_stamp 0 r).0;
   shows_written = only_written;
+  foresees = never_ahead;
   stalls = not_stalled;
+  strands = not_stranded;
   overspends = not_overspent;
   quick_overspends = λ rule l. omega (arith, read_within rule ReadKind.Quick _ l);
   settled_overspends = λ rule l. omega (arith, read_within rule ReadKind.Settled _ l);

@@ -205,7 +205,7 @@ module _ {F : Type 0} (q : Rule) (R : ℕ) (law : Lawful q) (start : F) (w : Wor
         in
         let new = good_quick q law w g.core d.operation (rank d.best_stamp) st x.reads
         x.true_figure.written (x.high n) hold in
-        read_ends q R law start w s h g d.operation r x.owner_is (reader_freed d) refl (rank d.best_stamp)
+        read_ends q R law start w s h g d.operation r x.owner_is x.reads (reader_freed d) refl (rank d.best_stamp)
         (omega arith) (omega arith) (λ l. absurd (omega arith)) new (best d) refl x.true_figure.is refl place
         taken 3
 

@@ -99,6 +99,7 @@ module _ {F : Type 0} (q : Rule) (R : ℕ) (law : Lawful q) (start : F) where
       lines = g.lines;
       at_work = g.at_work;
       told = g.told;
+      put = g.put;
       begun = g.begun;
       ended = g.ended;
     }
@@ -138,6 +139,7 @@ module _ {F : Type 0} (q : Rule) (R : ℕ) (law : Lawful q) (start : F) where
     ops = λ _. record { stage = 0; begun = 0; ended = 0; aim = 0; owner = Party.Writer; reading = false; snap = λ _. 0 };
     value = λ _. unused start;
     wrote = λ _. 0;
+    given = λ _. start;
     since = λ _. 0;
   }
 
@@ -154,7 +156,6 @@ module _ {F : Type 0} (q : Rule) (R : ℕ) (law : Lawful q) (start : F) where
         in_past = λ a. absurd (omega arith);
         grown = λ a. absurd (omega arith);
         fresh_since = λ a. absurd (omega arith);
-        write_settled = λ a. absurd (omega arith);
         aim_written = λ a. absurd (omega arith);
         read_aim = λ a. absurd (omega arith);
         write_aim = λ a. absurd (omega arith);
@@ -164,6 +165,7 @@ module _ {F : Type 0} (q : Rule) (R : ℕ) (law : Lawful q) (start : F) where
         kept_since = λ a. absurd (omega arith);
         ended_after = λ a. absurd (omega arith);
       };
+      figures = λ j a. absurd (omega arith);
       source = λ t p. absurd (omega arith);
     };
     first_value = refl;
@@ -201,6 +203,7 @@ module _ {F : Type 0} (q : Rule) (R : ℕ) (law : Lawful q) (start : F) where
     lines = λ j. line_none dawn _ _ refl;
     at_work = λ j. record { busy = λ a. absurd (omega arith); latest = λ a. absurd (omega arith) };
     told = λ m r e. absurd e;
+    put = λ j a. absurd (omega arith);
     begun = λ j a. absurd (omega arith);
     ended = λ j a. absurd (omega arith);
   }

@@ -1,7 +1,7 @@
 -- A write or a read that starts keeps what is known.
-use Rattle.std.proofs.Common.{◌≡◌, ℕ, suc, pred, ◌+◌, ◌/◌, ◌<◌, ◌≤◌, ◌⊎◌, List, [], ◌∷◌, ◌++◌, length, get_or, set, sym, refl, ap, ◌∙◌, subst, inl, inr, arith, length-set, Ok}
+use Rattle.std.proofs.Common.{◌≡◌, ℕ, suc, pred, ◌+◌, ◌/◌, ◌<◌, ◌≤◌, max, false, ◌⊎◌, List, [], ◌∷◌, ◌++◌, length, get_or, set, sym, refl, ap, ◌∙◌, subst, inl, inr, arith, length-set, Ok}
 use Rattle.std.specs.List.{AllByRecursion as All}
-use Rattle.std.proofs.lemmas.Bool.{cases_eq, both_ways}
+use Rattle.std.proofs.lemmas.Bool.{cases_eq, cases_Bool, both_ways}
 use Rattle.quorum.specs.Sets.{Rule, bits}
 use Rattle.quorum.specs.Laws.{Lawful}
 use Rattle.model.specs.declared.parties.Party.{Party}
@@ -25,9 +25,9 @@ use Rattle.std.proofs.lemmas.List.{get_or-set_same, get_or_append_left}
 use Rattle.std.proofs.Math.Seq.{get_or-append_seam}
 use Rattle.model.proofs.Lists.{each_set, length_push, one, all_to_all, in_to_all}
 use Rattle.model.proofs.Ranks.{rank_start, rank_next}
-use Rattle.model.proofs.World.{put_at, put_same, put_other, put_each, Op, World, Later, Core}
+use Rattle.model.proofs.World.{put_at, put_same, put_other, put_each, held, held_low, Op, World, Later, Core}
 use Rattle.model.proofs.Moves.{read_op, write_op, read_begun, write_begun, later_read, core_read, later_write, core_write}
-use Rattle.model.proofs.Good.{apart_writer, apart_reader, current, start_true, Says, InPhase, Writing, LineGood, AtWork, Opens, Closes, Good, Kept, true_later, mark_later, messages_later, Still, phase_later, writing_later, line_later, advance}
+use Rattle.model.proofs.Good.{apart_writer, apart_reader, current, start_true, Says, InPhase, Writing, LineGood, AtWork, Opens, Closes, Puts, Good, Kept, true_later, mark_later, messages_later, Still, phase_later, writing_later, line_later, advance}
 use Rattle.model.proofs.Steps.{work_later}
 use Rattle.model.proofs.Ends.{line_none}
 use Rattle.model.specs.Answers.{Answer}
@@ -37,7 +37,7 @@ opening c e = record { call = c; reply = Ok e.reply; taken = []; sent = e.sent }
 
 module _ {F : Type 0} (q : Rule) (R : ℕ) (law : Lawful q) (start : F) (w : World F) (s : State F) (h : History F)
     (g : Good q R start w s h) where
-  module _ (o : Op) (last : ℕ) (value : ℕ → Held F) (wrote : ℕ → ℕ) where
+  module _ (o : Op) (last : ℕ) (value : ℕ → Held F) (wrote : ℕ → ℕ) (given : ℕ → F) where
     abbrev v₅ : World F
     v₅ = record {
       now = suc w.now;
@@ -47,6 +47,7 @@ module _ {F : Type 0} (q : Rule) (R : ℕ) (law : Lawful q) (start : F) (w : Wor
       ops = put_at w.ops (suc w.count) o;
       value = value;
       wrote = wrote;
+      given = given;
       since = w.since;
     }
 
@@ -90,6 +91,7 @@ module _ {F : Type 0} (q : Rule) (R : ℕ) (law : Lawful q) (start : F) (w : Wor
         pub begins : (c : Call F) (sent : List (Message F)) → last ≡ rank wr.last
             → All (λ m. Says q R v₅ m.kind m) sent
             → Opens v₅ (next_number s) c sent
+            → (2 ≤ o.stage → o.reading ≡ false → Puts (next_number s) sent)
             → length d ≡ R
             → ((k : ℕ) → InPhase q v₅ k (get_or d k (new_reader s.start)).phase (get_or d k (new_reader s.start)))
             → Writing v₅ wr.operation wr.acknowledgers
@@ -106,7 +108,7 @@ module _ {F : Type 0} (q : Rule) (R : ℕ) (law : Lawful q) (start : F) (w : Wor
               finished = s.finished;
             })
             (h ++ record { call = c; reply = Ok (Reply.Started (next_number s)); taken = []; sent = sent } ∷ [])
-        begins c sent last_is says opens width readers writer =
+        begins c sent last_is says opens puts width readers writer =
             advance q R start w v₅ up s _ h _ g (record {
               core = core;
               start_is = g.start_is;
@@ -143,6 +145,9 @@ module _ {F : Type 0} (q : Rule) (R : ℕ) (law : Lawful q) (start : F) (w : Wor
                 };
                 sent_says = says;
               };
+              put =
+                  put_each (λ i p. 2 ≤ p.stage → p.reading ≡ false → (2 ≤ (w.ops i).stage) ⊎ Puts i sent) w.ops (suc w.count) o
+                  (λ l r. inr (rw number_is (puts l r))) (λ i _ l _. inl l);
               begun =
                   put_each
                   (λ i p. 1 ≤ p.stage → (1 ≤ (w.ops i).stage) ⊎
@@ -224,13 +229,13 @@ module _ {F : Type 0} (q : Rule) (R : ℕ) (law : Lawful q) (start : F) (w : Wor
       let up = later_read q law w g.core p in
       let v = read_begun w p in
       let core = core_read q law w g.core p in
-      let hr = here o w.last w.value w.wrote up core (omega arith) (omega arith) refl in
-      let st = still o w.last w.value w.wrote up core (omega arith) (omega arith) refl in
+      let hr = here o w.last w.value w.wrote w.given up core (omega arith) (omega arith) refl in
+      let st = still o w.last w.value w.wrote w.given up core (omega arith) (omega arith) refl in
       let d = reading s.start (reader s r) (next_number s) (opening_phase kind) in
       record {
         world = v;
         good =
-            begins o w.last w.value w.wrote up core (omega arith) (omega arith) refl
+            begins o w.last w.value w.wrote w.given up core (omega arith) (omega arith) refl
             (record {
               kind = OperationKind.Read kind;
               owner = p;
@@ -252,6 +257,7 @@ module _ {F : Type 0} (q : Rule) (R : ℕ) (law : Lawful q) (start : F) (w : Wor
             (all_to_all (opening_message kind) (next_number s) p (unused s.start) (λ m. Says q R v m.kind m)
             q.size (λ c _. asked r low kind _ hr))
             (record { reads = ap (λ y. y.reading) hr; owner_is = ap (λ y. y.owner) hr })
+            (λ l. absurd (omega arith))
             (length-set s.readers r d ∙ g.readers_are)
             (each_set (λ k y. InPhase q v k y.phase y) s.readers r d _
             (opened r low kind d (ap unused g.start_is) refl hr)
@@ -273,19 +279,28 @@ module _ {F : Type 0} (q : Rule) (R : ℕ) (law : Lawful q) (start : F) (w : Wor
       let x : Held F = to_write s f in
       let a : ℕ = rank x.stamp in
       let above : w.last < a = omega (arith, g.last_is, rank_next s.writer.last) in
+      let fresh : w.wrote a ≡ 0 = elim (cases_eq (w.wrote a) 0) [
+        | inl e ↦ e
+        | inr n ↦ let z = (g.core.source a (omega arith)).low in absurd (omega arith)
+      ] in
+      let unheld : (t : ℕ) → a ≤ t → held q w.at t ≡ false = λ t l. elim (cases_Bool (held q w.at t)) [
+        | inl e ↦ let m = held_low q law w.at t w.last g.core.low e in absurd (omega arith)
+        | inr e ↦ e
+      ] in
       let o = write_op w Party.Writer a in
       let value = put_at w.value a x in
       let wrote = put_at w.wrote a (suc w.count) in
-      let up = later_write q law w g.core Party.Writer a above x in
+      let given = put_at w.given (suc w.count) f in
+      let up = later_write q law w g.core Party.Writer a (omega arith) fresh unheld x in
       let v = write_begun w Party.Writer a x in
-      let core = core_write q law w g.core Party.Writer a above x in
-      let hr = here o a value wrote up core (omega arith) (omega arith) refl in
-      let st = still o a value wrote up core (omega arith) (omega arith) refl in
+      let core = core_write q law w g.core Party.Writer a (omega arith) fresh unheld x in
+      let hr = here o (max w.last a) value wrote given up core (omega arith) (omega arith) refl in
+      let st = still o (max w.last a) value wrote given up core (omega arith) (omega arith) refl in
       let value_is : x ≡ value a = sym (put_same w.value a x) in
       record {
         world = v;
         good =
-            begins o a value wrote up core (omega arith) (omega arith) refl
+            begins o (max w.last a) value wrote given up core (omega arith) (omega arith) refl
             (record {
               kind = OperationKind.Write;
               owner = Party.Writer;
@@ -299,7 +314,7 @@ module _ {F : Type 0} (q : Rule) (R : ℕ) (law : Lawful q) (start : F) (w : Wor
             (record { owner_is = λ _. refl; write_rank = λ _ _. refl; write_value = λ _ _. value_is })
             s.readers (writing s.writer (next_number s) x.stamp) free refl (others_write (next_number s))
             apart_writer
-            (Call.Write f) _ refl
+            (Call.Write f) _ (omega arith)
             (all_to_all MessageKind.Put (next_number s) Party.Writer x (λ m. Says q R v m.kind m) q.size
             (λ c k. record {
               settled = omega (arith, ap (λ y. y.stage) hr);
@@ -315,12 +330,10 @@ module _ {F : Type 0} (q : Rule) (R : ℕ) (law : Lawful q) (start : F) (w : Wor
             }))
             (record {
               writes = ap (λ y. y.reading) hr;
-              settled = omega (arith, ap (λ y. y.stage) hr);
-              figure_is = ap (λ y. y.figure) (ap (λ y. value y.aim) hr ∙ sym value_is);
-              aim_low = omega (arith, ap (λ y. y.aim) hr);
+              given_is = ap given (sym (ap suc g.count_is)) ∙ put_same w.given (suc w.count) f;
               owner_is = ap (λ y. y.owner) hr;
-              puts = (one MessageKind.Put (next_number s) Party.Writer x 0, in_to_all MessageKind.Put (next_number s) Party.Writer x q.size 0 law.least, refl, refl);
             })
+            (λ _ _. (one MessageKind.Put (next_number s) Party.Writer x 0, in_to_all MessageKind.Put (next_number s) Party.Writer x q.size 0 law.least, refl, refl))
             g.readers_are
             (λ k. phase_later q R start w v up k (st (Party.Reader k)) _ _ (g.readers k))
             (record {

@@ -70,6 +70,7 @@ module _ {F : Type 0} where
         (pred j) refl;
     at_work = g.at_work;
     told = g.told;
+    put = g.put;
     begun = g.begun;
     ended = g.ended;
   }
@@ -143,6 +144,7 @@ module _ {F : Type 0} (q : Rule) (R : ℕ) (law : Lawful q) (start : F) (w : Wor
         lines = λ j. line_later q R start w v₁ up₁ g.core j (line s j) (g.lines j);
         at_work = λ j. work_later s.start _ _ _ _ j (w.ops j) (same_current s.start _ _ _ _ same_op same_ops (w.ops j).owner) (g.at_work j);
         told = told;
+        put = λ j l _. inl l;
         begun = λ j l. inl l;
         ended = λ j l. inl l;
       })

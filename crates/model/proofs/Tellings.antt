@@ -52,6 +52,13 @@ module _ {F : Type 0} (q : Rule) (R : ℕ) (law : Lawful q) (start : F) (w : Wor
 
   -- A write that has begun, a read that has begun, and a read that has finished are in the history.
 
+  put_settled : (n : ℕ) (a : Message F) → Put h n a → 2 ≤ (op n).stage
+  put_settled n a p =
+      let says = all_in (λ y. Says q R w y.kind y) p.1.sent a (g.told p.0 p.1 p.2).sent_says p.3
+      in
+      let store = subst (λ k. Says q R w k a) p.4 says in
+      omega (arith, store.settled, ap (λ i. (op i).stage) p.5)
+
   puts_aim : (n : ℕ) (a : Message F) → Put h n a → (rank a.stamp ≡ (op n).aim) × (a.stamp ≡ (shown w n).stamp)
   puts_aim n a p =
       let says = all_in (λ y. Says q R w y.kind y) p.1.sent a (g.told p.0 p.1 p.2).sent_says p.3
@@ -60,27 +67,27 @@ module _ {F : Type 0} (q : Rule) (R : ℕ) (law : Lawful q) (start : F) (w : Wor
       let aims = store.aims ∙ ap (λ i. (op i).aim) p.5 in
       (aims, ap (λ y. y.stamp) (store.true_figure.is ∙ ap w.value aims))
 
-  write_shown : (n m : ℕ) (e : Event F) → At h m e → e.reply ≡ Ok (Reply.Started n) → (op n).reading ≡ false
+  write_shown : (n m : ℕ) (e : Event F) → At h m e → e.reply ≡ Ok (Reply.Started n) → 2 ≤ (op n).stage → (op n).reading ≡ false
       → (c : Call F) → e.call ≡ c → Opens w n c e.sent → Writes h n (shown w n)
-  write_shown n m e a d r (Call.Write f) i o =
-      let p = o.puts in (
+  write_shown n m e a d b r (Call.Write f) i o =
+      let p = g.put n b r in (
         m,
         e,
         a,
-        i ∙ ap (λ y. Call.Write y) (sym o.figure_is),
+        i ∙ ap (λ y. Call.Write y) (sym (g.core.figures n b r ∙ o.given_is)),
         d,
-        ((p.0, (m, e, a, p.1, p.2, p.3)), λ b z. (puts_aim n b z).1),
+        (p, λ b z. (puts_aim n b z).1),
       )
-  write_shown n m e a d r (Call.Read k kind) i o = absurd (both_ways (op n).reading r o.reads)
-  write_shown n m e a d r (Call.Deliver p) i o = absurd o
-  write_shown n m e a d r (Call.Drop p) i o = absurd o
-  write_shown n m e a d r (Call.Duplicate p) i o = absurd o
-  write_shown n m e a d r (Call.Halt p) i o = absurd o
+  write_shown n m e a d b r (Call.Read k kind) i o = absurd (both_ways (op n).reading r o.reads)
+  write_shown n m e a d b r (Call.Deliver p) i o = absurd o
+  write_shown n m e a d b r (Call.Drop p) i o = absurd o
+  write_shown n m e a d b r (Call.Duplicate p) i o = absurd o
+  write_shown n m e a d b r (Call.Halt p) i o = absurd o
 
-  pub writes : (n : ℕ) → 1 ≤ (op n).stage → (op n).reading ≡ false → Writes h n (shown w n)
+  pub writes : (n : ℕ) → 2 ≤ (op n).stage → (op n).reading ≡ false → Writes h n (shown w n)
   writes n b r =
-      let s = g.begun n b in
-      write_shown n (op n).begun s.0 s.1 s.2 r s.0.call refl
+      let s = g.begun n (omega arith) in
+      write_shown n (op n).begun s.0 s.1 s.2 b r s.0.call refl
       (begins_at _ s.0 n s.1 s.2).opens
 
   -- The owner and the kind that a start names are those of the operation.
@@ -137,12 +144,12 @@ module _ {F : Type 0} (q : Rule) (R : ℕ) (law : Lawful q) (start : F) (w : Wor
   -- And conversely.
 
   pub write_is : (n : ℕ) (x : Held F) → Writes h n x
-      → (1 ≤ (op n).stage) × ((op n).reading ≡ false) × (rank x.stamp ≡ (op n).aim)
+      → (2 ≤ (op n).stage) × ((op n).reading ≡ false) × (rank x.stamp ≡ (op n).aim)
   write_is n x v =
       let b = begins_at v.0 v.1 n v.2 v.4 in
       let o = subst (λ c. Opens w n c v.1.sent) v.3 b.opens in
       let p = v.5.0 in
-      (b.stage_is, o.writes, ap rank (sym (v.5.1 p.0 p.1)) ∙ (puts_aim n p.0 p.1).0)
+      (put_settled n p.0 p.1, o.writes, ap rank (sym (v.5.1 p.0 p.1)) ∙ (puts_aim n p.0 p.1).0)
 
   pub as_written : AsWritten h
   as_written m n x y v f =
@@ -151,7 +158,7 @@ module _ {F : Type 0} (q : Rule) (R : ℕ) (law : Lawful q) (start : F) (w : Wor
       let p = v.5.0 in
       let stamp : (shown w n).stamp ≡ x.stamp = sym (puts_aim n p.0 p.1).1 ∙ v.5.1 p.0 p.1 in
       sym (ends_at m n y f).value_is
-      ∙ ap₂ (λ t z. record { stamp = t; figure = z }) stamp o.figure_is
+      ∙ ap₂ (λ t z. record { stamp = t; figure = z }) stamp (g.core.figures n (put_settled n p.0 p.1) o.writes ∙ o.given_is)
 
   pub read_is : (n : ℕ) (x : Held F) → Shows h n x → (op n).reading ≡ true
   read_is n x v = let b = v.0 in (starts_at b.0 n b.1 (OperationKind.Read b.2) b.3).reading_is

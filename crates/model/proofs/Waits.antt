@@ -176,9 +176,9 @@ module _ {F : Type 0} (q : Rule) (R : ℕ) (law : Lawful q) (start : F) (w : Wor
         record {
           world = changed w j (ended_op (w.ops j) (w.ops j).aim w.now);
           good =
-              ends q R law start w s h g j (w.ops j).aim b (omega arith) (λ _. refl) new
+              ends q R law start w s h g j (w.ops j).aim b (omega arith) (λ _. refl) (λ _. omega arith) new
               (ended (line s j) (finish_event s) (written s j) 2) refl (written s j)
-              ((g.lines j).write_rank b (x.writes pos)) ((g.lines j).write_value b (x.writes pos)) refl
+              ((g.lines j).write_rank (omega arith) (x.writes pos)) ((g.lines j).write_value (omega arith) (x.writes pos)) refl
               s.readers (writer_freed (acknowledged s.writer c)) refl
               (subst (λ p. current s.start 0 s.readers p ≡ 0) (sym (x.owner_is pos)) refl) others
               (λ p. rw (x.owner_is pos) (apart_writer p))

@@ -94,6 +94,8 @@ pub record World (F : Type 0) : Type 0 where
   -- what was written under a stamp, by which operation (0 if by none), and since when it is held
   pub value : ℕ → Held F
   pub wrote : ℕ → ℕ
+  -- the figure that operation j was asked to write
+  pub given : ℕ → F
   pub since : ℕ → ℕ
 
 -- The start's stamp, or that of a write.
@@ -130,8 +132,9 @@ module _ (q : Rule) {F : Type 0} where
     pub count_up : w.count ≤ v.count
     pub at_up : (c : ℕ) → w.at c ≤ v.at c
     pub ops_up : (j : ℕ) → Onward (w.ops j) (v.ops j)
-    pub same_value : (t : ℕ) → t ≤ w.last → v.value t ≡ w.value t
-    pub same_wrote : (t : ℕ) → t ≤ w.last → v.wrote t ≡ w.wrote t
+    pub same_value : (t : ℕ) → Written w t → v.value t ≡ w.value t
+    pub same_wrote : (t : ℕ) → Written w t → v.wrote t ≡ w.wrote t
+    pub same_given : (j : ℕ) → 1 ≤ (w.ops j).stage → v.given j ≡ w.given j
     pub since_old : (t : ℕ) → held q w.at t ≡ true → v.since t ≡ w.since t
     pub since_new : (t : ℕ) → held q w.at t ≡ false → held q v.at t ≡ true → w.now ≤ v.since t
 
@@ -142,7 +145,6 @@ module _ (q : Rule) {F : Type 0} where
     pub grown : 1 ≤ o.stage → (c : ℕ) → o.snap c ≤ w.at c
     pub fresh_since : 1 ≤ o.stage → (t : ℕ) → held q o.snap t ≡ false → held q w.at t ≡ true
         → o.begun ≤ w.since t
-    pub write_settled : 1 ≤ o.stage → o.reading ≡ false → 2 ≤ o.stage
     pub aim_written : 2 ≤ o.stage → Written w o.aim
     pub read_aim : 2 ≤ o.stage → o.reading ≡ true → (t : ℕ) → o.aim < t → held q o.snap t ≡ false
     pub write_aim : 2 ≤ o.stage → o.reading ≡ false → (t : ℕ) → o.aim ≤ t → held q o.snap t ≡ false
@@ -164,12 +166,13 @@ module _ (q : Rule) {F : Type 0} where
     pub paced : (t u : ℕ) → t ≤ u → held q w.at u ≡ true → w.since t ≤ w.since u
     pub past : (t : ℕ) → held q w.at t ≡ true → w.since t ≤ w.now
     pub op : (j : ℕ) → OpGood w j (w.ops j)
+    pub figures : (j : ℕ) → 2 ≤ (w.ops j).stage → (w.ops j).reading ≡ false → (w.value (w.ops j).aim).figure ≡ w.given j
     pub source : (t : ℕ) → 0 < w.wrote t → Source w t (w.ops (w.wrote t))
 
   pub written_later : (w v : World F) → Later w v → {t : ℕ} → Written w t → Written v t
   written_later w v up {t} x = record {
     low = omega (arith, x.low, up.last_up);
-    by_one = λ p. omega (arith, x.by_one p, up.same_wrote t x.low);
+    by_one = λ p. omega (arith, x.by_one p, up.same_wrote t x);
   }
 
   module _ (law : Lawful q) (w v : World F) (up : Later w v) where
@@ -184,11 +187,10 @@ module _ (q : Rule) {F : Type 0} where
         | inl e ↦ omega (arith, g.fresh_since s t n e, up.since_old t e)
         | inr e ↦ omega (arith, g.in_past s, up.since_new t e h)
       ];
-      write_settled = g.write_settled;
       aim_written = λ s. written_later w v up (g.aim_written s);
       read_aim = g.read_aim;
       write_aim = g.write_aim;
-      write_own = λ s r. up.same_wrote o.aim (g.aim_written s).low ∙ g.write_own s r;
+      write_own = λ s r. up.same_wrote o.aim (g.aim_written s) ∙ g.write_own s r;
       write_positive = g.write_positive;
       kept = λ s. held_up q law w.at v.at o.aim o.aim (λ c l. omega (arith, l, up.at_up c)) (g.kept s);
       kept_since = λ s. omega (arith, g.kept_since s, up.since_old o.aim (g.kept s));

@@ -2,6 +2,7 @@
 use Rattle.std.specs.Prelude.{◌≡◌, ℕ, ◌+◌, ◌*◌, List, [], ◌∷◌, replicate, Ok, Err}
 use Rattle.quorum.specs.Sets.{Rule}
 use Rattle.quorum.specs.Laws.{Lawful}
+use Rattle.quorum.specs.Families.{count_rule}
 use Rattle.model.specs.declared.parties.Party.{Party}
 use Rattle.model.specs.declared.messages.MessageKind.{MessageKind}
 use Rattle.model.specs.declared.messages.Message.{Message}
@@ -11,8 +12,8 @@ use Rattle.model.specs.declared.calls.Call.{Call}
 use Rattle.model.specs.declared.answers.Reply.{Reply}
 use Rattle.model.specs.declared.answers.Refusal.{Refusal}
 use Rattle.model.specs.Stamps.{Stamp, no_stamp, next_stamp}
-use Rattle.model.specs.State.{State, Held, unused, new_message, fresh, with_journal}
-use Rattle.model.specs.Steps.{opening_message}
+use Rattle.model.specs.State.{State, Held, unused, new_message, fresh, with_journal, with_messages}
+use Rattle.model.specs.Steps.{opening_message, stopped}
 use Rattle.model.specs.History.{Event, History}
 use Rattle.model.specs.Claims.{Numbered, AsWritten, Row, Finishing, Limits, Undisturbed}
 
@@ -84,12 +85,38 @@ read_after_write t f =
     ∷ finishes 2 t f
     ∷ []
 
+-- Read 1 shows write 2, which starts after the read has finished.
+abbrev pub read_ahead : History ℕ
+read_ahead =
+    read_starts 1 0
+    ∷ finishes 1 first 10
+    ∷ write_starts 2 10 (put 2 first 10 ∷ [])
+    ∷ finishes 2 first 10
+    ∷ []
+
 -- A message of a write is delivered and only taken out, with no answer to the writer.
 abbrev pub stalled : History ℕ
 stalled =
     write_starts 1 10 (put 1 first 10 ∷ [])
     ∷ record { call = Call.Deliver 0; reply = Ok Reply.Done; taken = put 1 first 10 ∷ []; sent = [] }
     ∷ []
+
+-- Read 1 starts, and a message of write 2 is dropped.
+abbrev pub stranded : History ℕ
+stranded =
+    read_starts 1 0
+    ∷ write_starts 2 10 (put 2 first 10 ∷ [])
+    ∷ record { call = Call.Drop 0; reply = Ok Reply.Done; taken = put 2 first 10 ∷ []; sent = [] }
+    ∷ []
+
+abbrev pub three_replicas : Rule
+three_replicas = count_rule 3 1
+
+-- Replica 2 is halted, and all that waits is read 1's QUERY to it.
+abbrev pub one_left : State ℕ
+one_left =
+    with_messages (stopped (fresh three_replicas 0 1 64 8) (Party.Replica 2))
+    (new_message MessageKind.Query 1 (Party.Reader 0) (Party.Replica 2) (unused 0) ∷ [])
 
 -- A write for which one message more is sent than two for each replica.
 abbrev pub overspent : Rule → History ℕ
@@ -155,8 +182,12 @@ pub record Refutable : Type 0 where
   pub forgets : Row 0 (read_after_write no_stamp 0) → ⊥
   -- and one that shows anything else than that write, such as a figure that nobody wrote
   pub shows_written : (t : Stamp) (f : ℕ) → Row 0 (read_after_write t f) → (t ≡ first) × (f ≡ 10)
+  -- a read that shows a write that has not started yet
+  pub foresees : Row 0 read_ahead → ⊥
   -- a write that nothing holds up, and that does not finish
   pub stalls : (rule : Rule) → Lawful rule → Finishing rule stalled (after_write rule 1) → ⊥
+  -- a read that nothing holds up, and that does not finish: one replica is halted, and a message of another operation was dropped
+  pub strands : Finishing three_replicas stranded one_left → ⊥
   -- a write that costs more than two messages for each replica, though no message of it was copied
   pub overspends : (rule : Rule) → Limits rule (overspent rule) (after_write rule (2 * rule.size + 1)) → ⊥
   -- a quick or a settled read that costs more than four for each

@@ -1,5 +1,5 @@
 -- Worked examples of the rules, of sound tables and of whole runs, as one statement.
-use Rattle.std.specs.Prelude.{◌≡◌, ℕ, zero, suc, Bool, true, false, List, [], ◌∷◌, replicate, Ok, Err}
+use Rattle.std.specs.Prelude.{◌≡◌, ℕ, zero, suc, Bool, true, false, List, [], ◌∷◌, map, replicate, Ok, Err}
 use Rattle.quorum.specs.Sets.{Rule}
 use Rattle.quorum.specs.Families.{count_rule, lead_rule}
 use Rattle.quorum.specs.Examples.{RuleExamples}
@@ -9,6 +9,7 @@ use Rattle.model.specs.declared.journal.OperationKind.{OperationKind}
 use Rattle.model.specs.declared.journal.ReadKind.{ReadKind}
 use Rattle.model.specs.declared.replica.Replica.{Replica}
 use Rattle.model.specs.declared.journal.Operation.{Operation}
+use Rattle.model.specs.declared.messages.Message.{Message}
 use Rattle.model.specs.declared.calls.Call.{Call}
 use Rattle.model.specs.declared.answers.Reply.{Reply}
 use Rattle.model.specs.declared.answers.Refusal.{Refusal}
@@ -71,6 +72,9 @@ one_halted figure = Call.Write figure ∷ Call.Halt (Party.Replica 2) ∷ delive
 
 abbrev pub figure_under : {F : Type 0} → ℕ → F → Held F
 figure_under t f = record { stamp = t; figure = f }
+
+abbrev pub put_to : {F : Type 0} → F → ℕ → Message F
+put_to f c = new_message MessageKind.Put 1 Party.Writer (Party.Replica c) (figure_under 1 f)
 
 abbrev pub holds : {F : Type 0} → Held F → Bool → Replica F
 holds x halted = record { stamp = x.stamp; figure = x.figure; halted = halted }
@@ -169,6 +173,17 @@ pub record WorkedExamples : Type 0 where
       (Call.Write figure ∷ Call.Drop 0 ∷ Call.Duplicate 0 ∷ Call.Drop 3 ∷ Call.Duplicate 3 ∷ Call.Halt (Party.Replica 2)
       ∷ deliveries 5 (Call.Deliver 0 ∷ []))
       ≡ Ok (Reply.Started 1) ∷ dones 2 (Err Refusal.NoMessage ∷ Err Refusal.NoMessage ∷ dones 6 (Err Refusal.NoMessage ∷ []))
+  -- what each event says was taken out or copied, and what was sent: a drop and a copy take hold of the one message at their
+  -- place, and neither sends
+  pub traffic : (start figure : ℕ)
+      → map {B = List (Message ℕ) × List (Message ℕ)} (λ e. (e.taken, e.sent))
+      (played (count_rule 2 0) start 1 1024 256 (Call.Write figure ∷ Call.Drop 0 ∷ Call.Duplicate 0 ∷ Call.Deliver 0 ∷ Call.Drop 9 ∷ [])).history
+      ≡ ([], put_to figure 0 ∷ put_to figure 1 ∷ [])
+      ∷ (put_to figure 0 ∷ [], [])
+      ∷ (put_to figure 1 ∷ [], [])
+      ∷ (put_to figure 1 ∷ [], new_message MessageKind.PutAck 1 (Party.Replica 1) Party.Writer (unused start) ∷ [])
+      ∷ ([], [])
+      ∷ []
   -- a halted replica keeps what it held, and the write finishes without it
   pub goes_on : (start figure : ℕ)
       → answers (count_rule 3 1) start 1 1024 256 (one_halted figure)
@@ -206,7 +221,7 @@ pub record WorkedExamples : Type 0 where
       ≡ replicate 2 (record { operation = 3; relayers = 3; replied = true })
   -- three replicas under the lead of replica 0: the acknowledgements of the other two do not finish a write
   pub leads : (start figure : ℕ)
-      → answers (lead_rule (count_rule 3 1) 0) start 1 1024 256
+      → answers (lead_rule 3 (count_rule 3 1) 0) start 1 1024 256
       (Call.Write figure ∷ Call.Deliver 2 ∷ Call.Deliver 1 ∷ Call.Deliver 1 ∷ Call.Deliver 1 ∷ deliveries 2 [])
       ≡ Ok (Reply.Started 1) ∷ dones 5 (Ok (Reply.Finished 1 1 figure 6 2) ∷ [])
   -- room for one message and one line: of several refusals that apply the first is answered

@@ -1,3 +1,4 @@
-pub mod Answering
 pub mod Opened
 pub mod Serving
+pub mod Sessions
+pub mod Writing

@@ -1,5 +1,5 @@
 -- The claims over a script: its calls and the answers that are printed for them are one history, and that is served.
-use Rattle.std.specs.Prelude.{◌≡◌, ℕ, ◌+◌, List, [], ◌∷◌, ◌++◌, Ok, Err, Result}
+use Rattle.std.specs.Prelude.{◌≡◌, ℕ, ◌+◌, ◌≤◌, List, [], ◌∷◌, ◌++◌, length, Ok, Err, Result}
 use Rattle.quorum.specs.Laws.{Lawful}
 use Rattle.figure.specs.contracts.order.DigOrderFigureKind.TheImpl.{ghosts as order_kind}
 use Rattle.figure.specs.contracts.tide.TideFigureKind.TheImpl.{ghosts as tide_kind}
@@ -17,7 +17,8 @@ use Rattle.script.specs.Answers.{answer_of, line_shown}
 use Rattle.script.specs.Calls.{call_of}
 use Rattle.script.specs.Openings.{opening_of}
 use Rattle.script.specs.Rules.{rule_said}
-use Rattle.player.specs.Playing.{set_up, call_answers}
+use Rattle.model.specs.declared.answers.Reply.{Reply}
+use Rattle.player.specs.Playing.{set_up, plain_line}
 
 -- The calls that lines say, in their order.
 abbrev pub call_or : {F : Type 0} → Result (Call F) TextFault → List (Call F) → List (Call F)
@@ -44,20 +45,20 @@ told kind (l ∷ ls) n rs = told_line kind (told kind ls) n (call_of kind l) rs
 abbrev pub script_run : {F : Type 0} → Ghosts F → Header → List (List ℕ) → Run F
 script_run kind h ls = run (rule_said h.rule) (set_up kind h) (calls_in kind ls)
 
--- The rule is lawful, the lines printed are the answers of the run, and its history is served.
-pub record ServedCalls {F : Type 0} (kind : Ghosts F) (h : Header) (ls : List (List ℕ)) : Type 0 where
+-- The rule is lawful; what is printed is the answer to the first line and then those of the run, and its history is served.
+pub record ServedCalls {F : Type 0} (kind : Ghosts F) (h : Header) (ls : List (List ℕ)) (out : List ℕ) : Type 0 where
   pub lawful : Lawful (rule_said h.rule)
-  pub told_as : call_answers kind h ls ≡ told kind ls 2 (replies (script_run kind h ls).history)
+  pub told_as : out ≡ plain_line 1 (Ok Reply.Done) ++ told kind ls 2 (replies (script_run kind h ls).history)
   pub served : Served (rule_said h.rule) kind.starting (script_run kind h ls).history (script_run kind h ls).state
 
-abbrev pub served_kind : Kind → Header → List (List ℕ) → Type 0
-served_kind Kind.Tide h ls = ServedCalls tide_kind h ls
-served_kind Kind.Order h ls = ServedCalls order_kind h ls
+abbrev pub served_kind : Kind → Header → List (List ℕ) → List ℕ → Type 0
+served_kind Kind.Tide h ls out = ServedCalls tide_kind h ls out
+served_kind Kind.Order h ls out = ServedCalls order_kind h ls out
 
--- An accepted script.
-abbrev pub served_script : List (List ℕ) → Type 0
-served_script [] = Unit {0}
-served_script (first ∷ ls) = (h : Header) → opening_of first ≡ Ok h → served_kind h.kind h ls
+-- What is printed for a script whose first line is accepted.
+abbrev pub served_script : List (List ℕ) → List ℕ → Type 0
+served_script [] out = Unit {0}
+served_script (first ∷ ls) out = (h : Header) → opening_of first ≡ Ok h → served_kind h.kind h ls out
 
-abbrev pub ScriptServed : Type 0
-ScriptServed = (text : List ℕ) → served_script (lines text)
+abbrev pub ScriptServed : List ℕ → List ℕ → Type 0
+ScriptServed text out = length text ≤ 65536 → served_script (lines text) out

@@ -1,10 +1,15 @@
-//! Plays scripts: `play` gives for every input exactly the lines that are defined for it, and the claims stand on the run of
-//! its calls.
+//! Plays scripts: a `Session` answers them line by line, `play` and `play_through` whole. What is answered is for every input
+//! exactly what is defined for it, and the claims stand on the run of its calls.
 #![tactic(auto)]
 
+mod fault;
 mod playing;
 mod printing;
+mod session;
 mod setting_up;
 mod turn;
 
-pub use playing::{MOST_BYTES, play};
+pub use fault::PlayFault;
+pub use playing::{MOST_BYTES, play, play_through, play_to};
+pub use printing::MOST_ANSWER_BYTES;
+pub use session::{Opening, Session};

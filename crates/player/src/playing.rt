@@ -1,19 +1,18 @@
-ghost use Rattle.std.specs.Prelude.{◌≡◌, ◌≤◌, ◌++◌, length, IfOk, OnOk};
+ghost use Rattle.std.specs.Prelude.{◌≡◌, ◌+◌, ◌^◌, ◌<◌, length, take, IfOk, OnOk, IfSome};
+ghost use Rattle.std.specs.Io.KnownBytes.{Appends};
 ghost use Rattle.text.specs.LineCursors.{lines_ahead};
-ghost use Rattle.script.specs.Openings.{opening, accepted};
-ghost use Rattle.register.specs.Clusters.{cluster_state, cluster_rule};
-ghost use Rattle.player.specs.Playing.{answers, call_answers, opened, played};
+ghost use Rattle.player.specs.Playing.{played};
+ghost use Rattle.player.specs.Sessions.{ahead};
 ghost use Rattle.player.specs.Served.{ScriptServed};
 
-use crate::printing::push_answer;
-use crate::setting_up::{draft, found};
-use crate::turn::play_line;
-use figure::{DigOrder, FigureKind, Tide};
-use model::Reply;
-use quorum::QuorumSystem;
-use register::Cluster;
-use script::{Header, Kind, ScriptFault, TextFault, read_header};
+use crate::fault::PlayFault;
+use crate::printing::{MOST_ANSWER_BYTES, print_line};
+use crate::session::Session;
+use figure::Tide;
+use script::{ScriptFault, TextFault};
 use std::alloc::{AllocError, Global};
+use std::io;
+use std::io::{Read, Write};
 use text::LineCursor;
 
 /// How long a script may be. A longer one is declined whole.
@@ -23,70 +22,75 @@ pub const MOST_BYTES: usize = 65536;
 #[tactic(auto, using(crate::proofs::Serving::script_served))]
 pub fn play(heap: Global, script: &[u8]) -> Result<Vec<u8>, AllocError>
     ensures prints { IfOk result (λ out. out.items ≡ played script.now) }
-    ensures serves { ScriptServed }
-{
-    play_script(heap, script)
-}
-
-// The answers to its lines, or to a script that is too long.
-#[tactic(auto, using(text::proofs::LineEnds::lines_few))]
-fn play_script(heap: Global, script: &[u8]) -> Result<Vec<u8>, AllocError>
-    ensures { IfOk result (λ out. out.items ≡ played script.now) }
+    ensures serves { IfOk result (λ out. ScriptServed script.now out.items) }
 {
     let mut out = Vec::new(heap);
+    match play_to(heap, script, &mut out) {
+        Ok(()) => Ok(out),
+        // a `Vec` refuses bytes for want of memory alone
+        Err(_) => Err(AllocError),
+    }
+}
+
+/// Plays the script that there is to read, and writes the answers as it goes.
+pub fn play_through<R: Read + Drop, W: Write>(
+    heap: Global,
+    from: R,
+    to: &mut W,
+) -> Result<(), PlayFault>
+    ensures { OnOk result (IfSome (R.remaining from) (λ bytes.
+        Appends (W.contents to.old) (W.contents to.new) (played bytes))) }
+{
+    let script = match read_script(heap, from) {
+        Ok(script) => script,
+        Err(e) => return Err(PlayFault::Read(e)),
+    };
+    play_to(heap, script.as_slice(), to)?;
+    to.flush()?;
+    Ok(())
+}
+
+// The script that there is to read, or its front if it is too long: one byte more than a script may have shows that.
+fn read_script<R: Read + Drop>(heap: Global, from: R) -> io::Result<Vec<u8>>
+    ensures { IfOk result (λ script. IfSome (R.remaining from) (λ bytes. script.items ≡ take 65537 bytes)) }
+{
+    let mut script = Vec::new(heap);
+    from.take(MOST_BYTES as u64 + 1).read_to_end(&mut script)?;
+    Ok(script)
+}
+
+/// Plays a script, whatever its bytes are, and writes the answers as it goes.
+#[tactic(auto, using(text::proofs::LineEnds::lines_few))]
+pub fn play_to<W: Write>(heap: Global, script: &[u8], to: &mut W) -> io::Result<()>
+    ensures { OnOk result (Appends (W.contents to.old) (W.contents to.new) (played script.now)) }
+{
+    let mut buffer = [0; MOST_ANSWER_BYTES];
     if script.len() > MOST_BYTES {
-        push_answer::<Tide>(&mut out, 0, Err(ScriptFault::Text(TextFault::NotText)))?;
-        return Ok(out);
+        let fault = ScriptFault::Text(TextFault::NotText);
+        let printed = print_line::<Tide>(0, Err(fault), &mut buffer);
+        return to.write_all(&buffer[..printed]);
     }
     let mut lines = LineCursor::over(script);
     let Some(first) = lines.next() else {
-        return Ok(out);
+        return Ok(());
     };
-    match read_header(first) {
-        Ok(header) => match header.kind {
-            Kind::Tide => play_kind::<Tide>(heap, header, lines, &mut out)?,
-            Kind::Order => play_kind::<DigOrder>(heap, header, lines, &mut out)?,
-        },
-        Err(fault) => push_answer::<Tide>(&mut out, 1, Err(fault.into()))?,
-    }
-    Ok(out)
-}
-
-// Answers a first line with this header, and plays the call lines if the register can be drafted. That these are few is asked here
-// and below, since a cursor is over any text.
-fn play_kind<F: FigureKind>(
-    heap: Global,
-    header: Header,
-    lines: LineCursor<'_>,
-    out: &mut Vec<u8>,
-) -> Result<(), AllocError>
-    requires { length (lines_ahead lines) ≤ 65536 }
-    ensures { OnOk result (out.new.items ≡ out.old.items
-        ++ opened (λ h. call_answers F.FigureKind h (lines_ahead lines.entry)) (accepted header (opening header))) }
-{
-    match draft::<F>(header) {
-        Ok(draft) => {
-            push_answer::<F>(out, 1, Ok(Reply::Done))?;
-            let mut cluster = found(heap, draft)?;
-            play_calls(&mut cluster, lines, out)
-        }
-        Err(refusal) => push_answer::<F>(out, 1, Err(refusal.into())),
+    let opening = Session::open(heap, first, &mut buffer)?;
+    to.write_all(&buffer[..opening.printed])?;
+    match opening.session {
+        Some(session) => play_lines(session, lines, to),
+        None => Ok(()),
     }
 }
 
-// Plays the call lines one after the other.
-fn play_calls<R: QuorumSystem, F: FigureKind>(
-    cluster: &mut Cluster<R, F>,
-    lines: LineCursor<'_>,
-    out: &mut Vec<u8>,
-) -> Result<(), AllocError>
-    requires { length (lines_ahead lines) ≤ 65536 }
-    ensures { OnOk result (out.new.items ≡ out.old.items
-        ++ answers F.FigureKind (cluster_rule cluster.old) (cluster_state cluster.old) 2 (lines_ahead lines.entry)) }
+// Plays the lines to come, and writes the answers as it goes. That they can be numbered is asked, since a cursor is over any text.
+fn play_lines<W: Write>(mut session: Session, lines: LineCursor<'_>, to: &mut W) -> io::Result<()>
+    requires { session.number + length (lines_ahead lines) < 2 ^ 32 }
+    ensures { OnOk result (Appends (W.contents to.old) (W.contents to.new) (ahead session (lines_ahead lines.entry))) }
 {
-    for (number, line) in (2..).zip(lines) {
-        let answer = play_line(cluster, line);
-        push_answer(out, number, answer)?;
+    let mut buffer = [0; MOST_ANSWER_BYTES];
+    for line in lines {
+        let printed = session.line(line, &mut buffer);
+        to.write_all(&buffer[..printed])?;
     }
     Ok(())
 }

@@ -1,21 +1,23 @@
-ghost use Rattle.std.specs.Prelude.{◌≡◌, ◌++◌, OnOk};
+ghost use Rattle.std.specs.Prelude.{◌≤◌, length};
+ghost use Rattle.text.specs.Printing.{Printed};
 ghost use Rattle.script.specs.Answers.{line_shown};
 
 use figure::FigureKind;
 use model::Reply;
 use script::{ScriptFault, print_answer};
-use std::alloc::AllocError;
 
-/// Adds the answer to a line to what is printed.
-pub fn push_answer<F: FigureKind>(
-    out: &mut Vec<u8>,
+/// How many bytes an answer takes at most.
+pub const MOST_ANSWER_BYTES: usize = 80;
+
+/// Prints the answer to a line at the front of a buffer, and gives the number of bytes. There has to be room for any answer.
+pub fn print_line<F: FigureKind>(
     number: u32,
     answer: Result<Reply<F>, ScriptFault>,
-) -> Result<(), AllocError>
-    ensures { OnOk result (out.new.items ≡ out.old.items ++ line_shown F.FigureKind.shown number answer) }
+    buffer: &mut [u8],
+) -> usize
+    requires { 80 ≤ length buffer.old }
+    ensures { Printed buffer.old 0 (line_shown F.FigureKind.shown number answer) buffer.new result }
 {
-    let mut buffer = [0u8; 80];
-    // the printer writes into a lent buffer, and one of 80 bytes is never refused
-    let end = print_answer(number, answer, &mut buffer).unwrap();
-    out.extend_from_slice(&buffer[..end])
+    // the printer refuses a buffer of less than 80 bytes, and no other
+    print_answer(number, answer, buffer).unwrap()
 }

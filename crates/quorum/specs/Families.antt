@@ -25,10 +25,10 @@ grid_rule r c = record {
   hold = λ p. some (column_full r c p) c;
 }
 
--- One replica leads: a round set has it, and it holds alone.
-abbrev pub lead_rule : Rule → ℕ → Rule
-lead_rule below lead = record {
-  size = below.size;
+-- One of n replicas leads, n the size of the rule below: a round set has it, and it holds alone.
+abbrev pub lead_rule : ℕ → Rule → ℕ → Rule
+lead_rule n below lead = record {
+  size = n;
   round = λ p. below.round p && p lead;
   hold = λ p. below.hold p || p lead;
 }

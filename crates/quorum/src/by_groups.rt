@@ -32,7 +32,7 @@ impl<O: QuorumSystem + Drop, I: QuorumSystem + Drop> Groups<O, I> {
             (v.outer ≡ outer) × (v.inner ≡ inner)
             × (v.groups ≡ O.QuorumSystem.size outer) × (v.places ≡ I.QuorumSystem.size inner)
             × (Lawful (rule_of O.QuorumSystem outer) → Lawful (rule_of I.QuorumSystem inner)
-            → Lawful (grouped_rule v.groups v.places (rule_of O.QuorumSystem v.outer) (rule_of I.QuorumSystem v.inner)))) }
+            → Lawful (rule_of ⟦<Groups<O, I> as QuorumSystem>⟧ v))) }
     {
         let groups = outer.size();
         let places = inner.size();

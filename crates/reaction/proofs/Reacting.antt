@@ -207,7 +207,7 @@ module _ {F : Type 0} (rule : Rule) (s : State F) where
     ack_waits = refl
 
     writer_reacts : on_put_ack rule s (sent MessageKind.PutAck Party.Writer)
-        ≡ come (writer_reaction rule.round s.writer (line s n) n (index from))
+        ≡ come (writer_reaction rule.round s.writer (line s n) (sent MessageKind.PutAck Party.Writer) (index from))
     unfolding on_put_ack
     writer_reacts =
         splits_not come (eqb s.writer.operation n) _ _ _ _
@@ -335,7 +335,7 @@ module _ {F : Type 0} (rule : Rule) (s : State F) where
     -- The writer is sent nothing but acknowledgements.
     ack_reacts : (message : MessageKind) → suits rule s message from Party.Writer ≡ true
         → on rule message s (sent message Party.Writer)
-        ≡ come (writer_reaction rule.round s.writer (line s n) n (index from))
+        ≡ come (writer_reaction rule.round s.writer (line s n) (sent message Party.Writer) (index from))
     unfolding on
     ack_reacts MessageKind.Put e = never _ e
     ack_reacts MessageKind.PutAck e = writer_reacts

@@ -17,7 +17,7 @@ use Rattle.model.specs.Records.{acknowledged, heard, lowered, marked}
 use Rattle.tables.specs.declared.numbers.Numbers.{Numbers}
 use Rattle.reaction.specs.declared.reaction.Reaction.{Reaction}
 use Rattle.reaction.specs.declared.reaction.Move.{Move}
-use Rattle.reaction.specs.Reactions.{nothing, counts, hears, after_message, next_move, moved, after_heard, to_reader, to_writer}
+use Rattle.reaction.specs.Reactions.{nothing, counts, hears, after_message, next_move, moved, after_heard, to_reader, acknowledges, to_writer}
 use Rattle.reaction.specs.Reactions.{outdated, offered, after_mark, to_mark, replica_reaction, reaction_of, reaction}
 use Rattle.reaction.specs.Applied.{HasLine, Applicable}
 
@@ -33,7 +33,7 @@ module _ {F : Type 0} (n : Numbers) (m : Message F) (there : HasLine n.lines m.o
   writer_apt : (round : Family) (o : Operation F) → Apt (to_writer round n.writer o m)
   writer_apt round o =
       cond_both n.writer.halted _ _ Apt (λ _. still)
-      (λ _. cond_both (eqb n.writer.operation m.operation) _ _ Apt
+      (λ _. cond_both (acknowledges n.writer m) _ _ Apt
       (λ _. cond_both (round (bits (acknowledged n.writer (index m.sender)).acknowledgers)) _ _ Apt
       (λ _. record { finish = there; post = tt; writer = refl })
       (λ _. record { finish = tt; post = tt; writer = refl }))

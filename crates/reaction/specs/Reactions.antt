@@ -1,5 +1,5 @@
 -- What a delivered message does, as a value that is worked out before any record is changed.
-use Rattle.std.specs.Prelude.{◌≡◌, ℕ, ◌+◌, ◌*◌, Bool, true, false, cond, not, ◌&&◌, List, [], length, Some, None, Option, ◌==◌, nat_lt, slice_index_or}
+use Rattle.std.specs.Prelude.{◌≡◌, ℕ, ◌+◌, ◌*◌, Bool, true, false, cond, if◌then◌else◌, not, ◌&&◌, List, [], length, Some, None, Option, ◌==◌, nat_lt, slice_index_or}
 use Rattle.quorum.specs.Sets.{Rule, Family, bits}
 use Rattle.model.specs.declared.parties.Party.{Party}
 use Rattle.model.specs.declared.reader.Phase.{Phase}
@@ -136,9 +136,9 @@ after_message d m c = hears d m c d.phase
 abbrev pub move_in : {F : Type 0} → Family → Family → ReadKind → Reader F → Phase → Move
 move_in round hold kind d Phase.Idle = Move.Wait
 move_in round hold kind d Phase.First =
-    cond (round (bits d.replies))
-    (cond (is_quick (OperationKind.Read kind) && hold (bits d.holders)) (Move.Finish 2) Move.PlaceBest)
-    Move.Wait
+    if round (bits d.replies)
+    then if is_quick (OperationKind.Read kind) && hold (bits d.holders) then Move.Finish 2 else Move.PlaceBest
+    else Move.Wait
 move_in round hold kind d Phase.Second = cond (round (bits d.replies)) (Move.Finish 4) Move.Wait
 move_in round hold kind d Phase.Relay = cond (round (bits d.replies)) (Move.Finish 3) Move.Wait
 
@@ -175,12 +175,27 @@ after_acknowledged round w o n =
     (at_writer (writer_freed w) (Some (finish_with n (record { stamp = o.stamp; figure = o.figure }) 2)))
     (at_writer w None)
 
-abbrev pub writer_reaction : {F : Type 0} → Family → Writer → Operation F → ℕ → ℕ → Reaction F
-writer_reaction round w o n c =
-    cond (w.operation == n) (after_acknowledged round (acknowledged w c) o n) nothing
+abbrev pub is_put_ack : MessageKind → Bool
+is_put_ack MessageKind.Put = false
+is_put_ack MessageKind.PutAck = true
+is_put_ack MessageKind.Query = false
+is_put_ack MessageKind.Have = false
+is_put_ack MessageKind.Back = false
+is_put_ack MessageKind.BackAck = false
+is_put_ack MessageKind.Fan = false
+is_put_ack MessageKind.Relay = false
+is_put_ack MessageKind.Reply = false
+
+-- Whether m counts for the writer.
+abbrev pub acknowledges : {F : Type 0} → Writer → Message F → Bool
+acknowledges w m = is_put_ack m.kind && w.operation == m.operation
+
+abbrev pub writer_reaction : {F : Type 0} → Family → Writer → Operation F → Message F → ℕ → Reaction F
+writer_reaction round w o m c =
+    if acknowledges w m then after_acknowledged round (acknowledged w c) o m.operation else nothing
 
 abbrev pub to_writer : {F : Type 0} → Family → Writer → Operation F → Message F → Reaction F
-to_writer round w o m = cond w.halted nothing (writer_reaction round w o m.operation (index m.sender))
+to_writer round w o m = if w.halted then nothing else writer_reaction round w o m (index m.sender)
 
 -- TO ANY PARTY
 

@@ -1,24 +1,27 @@
-ghost use Rattle.std.specs.Prelude.{◌≡◌, ◌<◌, if◌then◌else◌, ◌==◌};
+ghost use Rattle.std.specs.Prelude.{◌≡◌, ◌<◌, if◌then◌else◌};
 ghost use Rattle.model.specs.State.{index as index_of};
 ghost use Rattle.model.specs.Records.{acknowledged};
-ghost use Rattle.reaction.specs.Reactions.{to_writer};
+ghost use Rattle.reaction.specs.Reactions.{acknowledges, to_writer};
 
 use crate::reaction::{Finish, Reaction};
-use model::{Message, Operation, Writer};
+use model::{Message, MessageKind, Operation, Writer};
 use quorum::{QuorumSystem, joined};
 
-/// Replica `sender` acknowledges the operation; true where that is the writer's current one.
-// The writer's state is changed in place, as a reader's in `hear` (docs/DECISIONS.md, language forms). So the answer is a bool.
-pub fn acknowledge(writer: &mut Writer, operation: u16, sender: u32) -> bool
+/// What the writer makes of a message from replica `sender`; true where the message counted.
+///
+/// An acknowledgement counts for the writer's current operation.
+pub fn acknowledge<F: Copy>(writer: &mut Writer, message: &Message<F>, sender: u32) -> bool
     requires { sender < 32 }
-    ensures counted { result ≡ (writer.old.operation == operation) }
+    ensures counted { result ≡ acknowledges writer.old message.now }
     ensures joined { writer.new ≡ (if result then acknowledged writer.old sender else writer.old) }
 {
-    if writer.operation != operation {
-        return false;
+    match (writer.operation, message.kind) {
+        (current, MessageKind::PutAck) if current == message.operation => {
+            writer.acknowledgers = joined(writer.acknowledgers, sender);
+            true
+        }
+        _ => false,
     }
-    writer.acknowledgers = joined(writer.acknowledgers, sender);
-    true
 }
 
 /// What a message does that reaches the writer, in the operation of this line. It is an acknowledgement: the writer is sent nothing else.
@@ -31,7 +34,7 @@ pub fn to_writer<R: QuorumSystem, F: Copy>(
     requires { index_of message.now.sender < 32 }
     ensures { result ≡ to_writer (R.QuorumSystem.round rule.now) writer line.now message.now }
 {
-    if writer.halted || !acknowledge(&mut writer, message.operation, message.sender.index()) {
+    if writer.halted || !acknowledge(&mut writer, message, message.sender.index()) {
         return Reaction::nothing();
     }
     if !rule.is_round(writer.acknowledgers) {

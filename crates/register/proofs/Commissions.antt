@@ -6,7 +6,7 @@ use Rattle.quorum.specs.declared.system.QuorumSystem.{Ghosts}
 use Rattle.model.specs.Stamps.{no_stamp}
 use Rattle.model.specs.State.{State, fresh, new_replica, new_reader, new_mark}
 use Rattle.model.specs.History.{Grows, begun}
-use Rattle.model.proofs.Serving.{serves}
+use Rattle.register.proofs.Running.{runs}
 use Rattle.tables.specs.declared.numbers.Numbers.{Numbers}
 use Rattle.register.specs.declared.service.Draft.{Draft}
 use Rattle.register.specs.declared.service.Register.{Register}
@@ -67,5 +67,5 @@ module _ {R F : Type 0} {g : Ghosts R} (d : Draft R F g) where
           same_meaning = ap (rule_of g) o.rule;
           state = rw (o.start, o.numbers) state;
           begins = b;
-          serves = λ law. serves F (meaning x) law x.start [] _ b.grows;
+          serves = λ cs rs x' t' ran. (runs x t cs rs x' t' ran).extends [] b;
         }

@@ -89,7 +89,7 @@ module _ {R F : Type 0} {g : Ghosts R} (x : Register R F g) (t : Tables F) where
   }
   led h grown (then {cs = cs} {rs = rs} {x' = x'} {t' = t'} ran c r x'' t'' plays) = led_more h cs rs x' t' (led h grown ran) c r x'' t'' plays
 
-runs : {R F : Type 0} {g : Ghosts R} (x : Register R F g) (t : Tables F) (cs : List (Call F)) (rs : List (Answer F))
+pub runs : {R F : Type 0} {g : Ghosts R} (x : Register R F g) (t : Tables F) (cs : List (Call F)) (rs : List (Answer F))
     (x' : Register R F g) (t' : Tables F) → Ran x t cs rs x' t' → Runs cs x t rs x' t'
 runs {R} {F} x t cs rs x' t' ran = record {
   ran = ran;

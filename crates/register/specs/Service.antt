@@ -1,12 +1,12 @@
 -- The life of a register: a draft is commissioned over lent tables, and a register is closed.
-use Rattle.std.specs.Prelude.{◌≡◌, ℕ, Bool, true, false, ◌&&◌, [], length, Ok, Err, Result, nat_le}
+use Rattle.std.specs.Prelude.{◌≡◌, ℕ, Bool, true, false, ◌&&◌, List, [], length, Ok, Err, Result, nat_le}
 use Rattle.quorum.specs.Sets.{Rule}
-use Rattle.quorum.specs.Laws.{Lawful}
 use Rattle.quorum.specs.Meaning.{rule_of}
 use Rattle.quorum.specs.declared.system.QuorumSystem.{Ghosts}
 use Rattle.model.specs.declared.answers.Refusal.{Refusal}
 use Rattle.model.specs.State.{fresh}
-use Rattle.model.specs.Claims.{Served}
+use Rattle.model.specs.declared.calls.Call.{Call}
+use Rattle.model.specs.Answers.{Answer}
 use Rattle.register.specs.declared.tally.Tally.{Tally}
 use Rattle.register.specs.declared.service.Draft.{Draft}
 use Rattle.register.specs.declared.service.Uncommissioned.{Uncommissioned}
@@ -14,6 +14,7 @@ use Rattle.register.specs.declared.service.Register.{Register}
 use Rattle.tables.specs.View.{Tables, view}
 use Rattle.register.specs.Histories.{Grown}
 use Rattle.register.specs.Calls.{meaning}
+use Rattle.register.specs.Runs.{Ran, Extends}
 use Rattle.register.specs.Commissioning.{new_numbers, parties_fit}
 
 -- The rule that a draft is of.
@@ -40,15 +41,16 @@ pub record Opened {R F : Type 0} {g : Ghosts R} (d : Draft R F g) (message_room 
   pub start : x.start ≡ d.start
   pub numbers : x.numbers ≡ new_numbers (drafted d).size d.readers message_room journal_room
 
--- x is the draft's register, newly in service over these tables. The empty history led there, and under a lawful rule it is
--- served.
+-- x is the draft's register, newly in service over these tables. Whatever is called from here on, each call on what the one
+-- before left: the answers are those of one history, and under a lawful rule that history is served.
 pub record InService {R F : Type 0} {g : Ghosts R} (d : Draft R F g) (x : Register R F g) (t : Tables F) : Type 0 where
   pub opened : Opened d (length t.messages) (length t.journal) x
   pub same_meaning : meaning x ≡ drafted d
   pub state : view x.start x.numbers t
       ≡ fresh (drafted d) d.start d.readers (length t.messages) (length t.journal)
   pub begins : Grown (meaning x) x.start [] x.numbers t
-  pub serves : Lawful (meaning x) → Served (meaning x) x.start [] (view x.start x.numbers t)
+  pub serves : (cs : List (Call F)) (rs : List (Answer F)) (x' : Register R F g) (t' : Tables F) → Ran x t cs rs x' t'
+      → Extends (meaning x) x.start cs x.numbers t rs x'.numbers t' []
 
 -- The draft came back as it was, with the refusal, and no table is altered.
 pub record SentBack {R F : Type 0} {g : Ghosts R} (d : Draft R F g) (t : Tables F) (u : Uncommissioned R F g) (t' : Tables F) : Type 0 where

@@ -9,7 +9,7 @@ use Rattle.script.specs.declared.rule.ScriptRule.{ScriptRule}
 abbrev pub rule_said : RuleText → Rule
 rule_said (RuleText.Count s f) = count_rule s f
 rule_said (RuleText.Grid r c) = grid_rule r c
-rule_said (RuleText.Lead k s f) = lead_rule (count_rule s f) k
+rule_said (RuleText.Lead k s f) = lead_rule s (count_rule s f) k
 rule_said (RuleText.Groups g f n e) = grouped_rule g n (count_rule g f) (count_rule n e)
 
 abbrev pub count_of : Count → Rule
@@ -19,5 +19,5 @@ count_of c = count_rule c.size c.faults
 abbrev pub meaning_of : ScriptRule → Rule
 meaning_of (ScriptRule.Count c) = count_of c
 meaning_of (ScriptRule.Grid g) = grid_rule g.rows g.columns
-meaning_of (ScriptRule.Lead l) = lead_rule (count_of l.below) l.lead
+meaning_of (ScriptRule.Lead l) = lead_rule l.size (count_of l.below) l.lead
 meaning_of (ScriptRule.Groups g) = grouped_rule g.groups g.places (count_of g.outer) (count_of g.inner)

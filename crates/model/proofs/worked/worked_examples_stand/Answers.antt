@@ -29,6 +29,7 @@ returns c = record {
   rounds = λ start figure. refl;
   halts = λ start figure. refl;
   losses = λ start figure. refl;
+  traffic = λ start figure. refl;
   goes_on = λ start figure. refl;
   goes_on_end = λ start figure. refl;
   counts_once = λ start figure. refl;

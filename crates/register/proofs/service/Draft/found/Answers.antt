@@ -1,4 +1,5 @@
-use Rattle.std.proofs.Common.{sym}
+use Rattle.std.proofs.Common.{sym, []}
+use Rattle.model.proofs.Serving.{serves}
 use Rattle.register.proofs.Founding.{service, state_is, new_cluster}
 use Rattle.register.proofs.service.Draft.found.Goals as goal
 
@@ -16,6 +17,6 @@ returns-in-Ok g c =
         start = s.opened.start;
         state = state_is c.args.self _ _ fit c.in-Ok.tables c.in-Ok.ensures c.open.result c.open.ensures;
         begins = s.begins.grows;
-        serves = s.serves;
+        serves = λ law. serves _ _ law _ [] _ s.begins.grows;
       },
     )
