@@ -3,12 +3,11 @@ use Rattle.std.proofs.Common.{◌≡◌, ℕ, ◌≤◌, ◌⊎◌, List, [], �
 use Rattle.std.specs.List.{AllByRecursion as All}
 use Rattle.model.specs.Stamps.{Stamp, rank, no_stamp}
 use Rattle.model.specs.State.{Held, unused}
-use Rattle.model.specs.History.{History}
-use Rattle.model.specs.Claims.{In, Once, Before, Finishes, Writes, Shows, Row}
-use Rattle.model.specs.Refuted.{value, first, read_ahead}
+use Rattle.model.specs.Claims.{Once, Before, Finishes, Writes, Shows, Row}
+use Rattle.model.specs.Refuted.{first, read_ahead}
 use Rattle.model.proofs.Ranks.{rank_next}
 use Rattle.model.proofs.Slate.{before_trans, shown_after, Tells, write_tells, read_tells}
-use Rattle.model.proofs.Slate.{finish_tells, written, ended, finish_at, write_at, read_at}
+use Rattle.model.proofs.Slate.{finish_tells, written, ended, finish_at, write_at}
 
 not_before_itself : {A : Type 0} (x : A) (l : List A) → Once l → Before x x l → ⊥
 not_before_itself x [] once b = absurd b

@@ -1,5 +1,5 @@
 -- The claims exclude what they should.
-use Rattle.std.proofs.Common.{◌≡◌, ℕ, zero, suc, ◌+◌, ◌*◌, ◌<◌, ◌≤◌, true, not, ◌⊎◌, [], ◌∷◌, refl, ap, ◌∙◌, inl, inr, arith, Ok}
+use Rattle.std.proofs.Common.{◌≡◌, ℕ, zero, suc, ◌+◌, ◌*◌, ◌<◌, ◌≤◌, true, not, ◌⊎◌, [], ◌∷◌, sym, subst, refl, ap, ◌∙◌, inl, inr, arith, Ok}
 use Rattle.std.specs.List.{AllByRecursion as All}
 use Rattle.std.proofs.lemmas.List.{get_or-replicate}
 use Rattle.std.proofs.lemmas.Bool.{and_from, lt-ltb}
@@ -9,14 +9,15 @@ use Rattle.model.specs.declared.replica.Replica.{Replica}
 use Rattle.model.specs.declared.parties.Party.{Party}
 use Rattle.model.specs.declared.journal.OperationKind.{OperationKind}
 use Rattle.model.specs.declared.journal.ReadKind.{ReadKind}
+use Rattle.model.specs.declared.messages.Message.{Message}
 use Rattle.model.specs.declared.calls.Call.{Call}
 use Rattle.model.specs.declared.answers.Reply.{Reply}
 use Rattle.model.specs.Stamps.{Stamp, rank, no_stamp}
 use Rattle.model.specs.State.{State, Held, new_replica, fresh, unused}
 use Rattle.model.specs.History.{Event, History}
-use Rattle.model.specs.Claims.{At, Finishes, Writes, Numbered, AsWritten, Row, working, Finishing, Uncopied, of_operation, sent_for, limit, Limits}
-use Rattle.model.specs.Refuted.{value, write_starts, read_starts, finishes, first, second, number_given_twice, read_ends_twice, write_ends}
-use Rattle.model.specs.Refuted.{read_after_write, stalled, overspent, after_start, after_write, ReadWithin, Refutable}
+use Rattle.model.specs.Claims.{At, In, Finishes, Finished, Writes, Numbered, AsWritten, Row, working, Finishing, Uncopied, of_operation, sent_for, limit, Limits}
+use Rattle.model.specs.Refuted.{value, write_starts, read_starts, finishes, first, second, number_given_twice, read_ends_twice, two_at_once, write_ends}
+use Rattle.model.specs.Refuted.{read_after_write, stalled, overspent, overspent_beside_a_copy, after_start, after_write, after_both, ReadWithin, Refutable}
 use Rattle.model.proofs.Ranks.{rank_next}
 use Rattle.model.proofs.Slate.{shows_after, Tells, write_tells, read_tells, finish_tells, written, writes_from, ended}
 use Rattle.model.proofs.Slate.{finish_at, write_at, read_at}
@@ -42,6 +43,19 @@ not_unstarted : (s : State ℕ) → Numbered (finishes 1 no_stamp 0 ∷ []) s �
 not_unstarted s n =
     let (l, p, k, st, before) = n.started_first 0 1 _ (finish_at (finishes 1 no_stamp 0 ∷ []) 1 0 no_stamp 0 refl) in
     omega arith
+
+none_finishes : (n : ℕ) → Finished two_at_once n → ⊥
+none_finishes n (zero, x, (e, place, sent, exchanges, at, call, reply)) = cc
+none_finishes n (suc zero, x, (e, place, sent, exchanges, at, call, reply)) = cc
+none_finishes n (suc (suc m), x, (e, place, sent, exchanges, at, call, reply)) = absurd at
+
+not_overlapping : (s : State ℕ) → Numbered two_at_once s → ⊥
+not_overlapping s n =
+    omega (
+      arith,
+      n.one_unfinished 0 1 1 2 (Party.Reader 0) _ _
+          (read_at two_at_once 1 0 0 refl) (read_at two_at_once 2 1 0 refl) (none_finishes 1) (none_finishes 2),
+    )
 
 not_mislabelled : (rule : Rule) (kind : OperationKind) (owner : Party)
     → Numbered (write_starts 1 10 [] ∷ []) (after_start rule kind owner (value first 10) 0)
@@ -159,6 +173,23 @@ not_overspent rule limits =
     (one_call _ (λ place c. cc) 1) in
     omega arith
 
+-- What was copied is of another operation.
+copied_beside : (rule : Rule) → Uncopied (overspent_beside_a_copy rule) 2
+copied_beside rule zero place e a at call i o = cc
+copied_beside rule (suc zero) place e a at call i o = elim (subst (λ (x : Event ℕ). In a x.taken) (sym at) i) [
+  | inl p ↦ omega (arith, ap (λ (y : Message ℕ). y.operation) p, o)
+  | inr u ↦ absurd u
+]
+copied_beside rule (suc (suc zero)) place e a at call i o = cc
+copied_beside rule (suc (suc (suc m))) place e a at call i o = absurd at
+
+not_overspent_beside : (rule : Rule)
+    → Limits rule (overspent_beside_a_copy rule) (after_both rule (2 * rule.size + 1)) → ⊥
+unfolding fresh
+not_overspent_beside rule limits =
+    let most = limits.bounded 2 2 _ _ (write_at (overspent_beside_a_copy rule) 2 2 10 _ refl) (copied_beside rule) in
+    omega arith
+
 read_within : (rule : Rule) (kind : ReadKind) (sent : ℕ) → ReadWithin rule kind sent
     → sent ≤ limit rule.size (OperationKind.Read kind)
 unfolding fresh
@@ -180,6 +211,7 @@ refutable = record {
   renumbers = not_renumbered;
   repeats = not_repeated;
   unstarted = not_unstarted;
+  overlaps = not_overlapping;
   mislabels = not_mislabelled;
   miswrites = only_written_finishes;
   falls_back = λ r. rises first second (rank_next first) (only_newest first 10 r).0;
@@ -190,6 +222,7 @@ refutable = record {
   stalls = not_stalled;
   strands = not_stranded;
   overspends = not_overspent;
+  overspends_beside_a_copy = not_overspent_beside;
   quick_overspends = λ rule l. omega (arith, read_within rule ReadKind.Quick _ l);
   settled_overspends = λ rule l. omega (arith, read_within rule ReadKind.Settled _ l);
   relay_overspends = λ rule l. omega (arith, read_within rule ReadKind.Relay _ l);

@@ -1,6 +1,6 @@
 -- Finishing is claimed of reads too, with a replica halted, of whose messages one still waits, and with a message of another
 -- operation dropped.
-use Rattle.std.proofs.Common.{◌≡◌, ℕ, zero, suc, true, [], ◌∷◌, sym, subst, refl, ap, inl, inr, arith, Ok}
+use Rattle.std.proofs.Common.{◌≡◌, ℕ, zero, suc, true, sym, subst, refl, ap, inl, inr, arith, Ok}
 use Rattle.model.specs.declared.messages.Message.{Message}
 use Rattle.model.specs.declared.calls.Call.{Call}
 use Rattle.model.specs.declared.answers.Reply.{Reply}

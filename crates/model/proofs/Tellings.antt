@@ -1,6 +1,6 @@
 -- What a history tells of its operations is what is known of them.
 use Rattle.std.proofs.Common.{◌≡◌, ℕ, ◌<◌, ◌≤◌, Bool, true, false, List, length, Some, None, Option, sym, refl, ap, ap₂, ◌∙◌, subst, inl, inr, arith, Ok, Err}
-use Rattle.std.proofs.lemmas.Bool.{cases_eq, both_ways}
+use Rattle.std.proofs.lemmas.Bool.{cases_eq, cases_lt, both_ways}
 use Rattle.quorum.specs.Sets.{Rule}
 use Rattle.quorum.specs.Laws.{Lawful}
 use Rattle.model.specs.declared.parties.Party.{Party}
@@ -13,10 +13,10 @@ use Rattle.model.specs.Stamps.{rank}
 use Rattle.model.specs.State.{State, Held, line}
 use Rattle.model.specs.Sound.{is_read}
 use Rattle.model.specs.History.{Event, History}
-use Rattle.model.specs.Claims.{At, asked, Starts, Finishes, Put, Writes, Shows, Numbered, AsWritten}
+use Rattle.model.specs.Claims.{At, asked, Starts, Finishes, Finished, Put, Writes, Shows, Numbered, AsWritten}
 use Rattle.model.proofs.Lists.{all_in, at_same}
 use Rattle.model.proofs.World.{Op, World}
-use Rattle.model.proofs.Good.{Says, Ends, Opens, Begins, Answers, shown, Good}
+use Rattle.model.proofs.Good.{Says, Ends, Opens, Begins, Answers, current, shown, Good}
 use Rattle.model.specs.Answers.{Answer}
 
 -- The parts of what is asked for.
@@ -178,6 +178,16 @@ module _ {F : Type 0} (q : Rule) (R : ℕ) (law : Lawful q) (start : F) (w : Wor
             (sym (ap is_start f.6) ∙ ap (λ (v : Event F). is_start v.reply) e ∙ ap is_start b.2))
       ]
 
+  -- An owner is at work on what it started and has not finished.
+  at_work_on : (m n : ℕ) (p : Party) (k : OperationKind) → Starts h m n p k → (Finished h n → ⊥)
+      → current s.start s.writer.operation s.readers p ≡ n
+  at_work_on m n p k a u =
+      let x = starts_at m n p k a in
+      elim (cases_lt (op n).stage 3) [
+        | inl l ↦ ap (current s.start s.writer.operation s.readers) (sym x.owner_is) ∙ (g.at_work n).busy x.stage_is (omega arith)
+        | inr l ↦ absurd (u ((op n).ended, shown w n, g.ended n l))
+      ]
+
   pub numbered : ((m n : ℕ) (p : Party) (k : OperationKind) → Starts h m n p k
       → (1 ≤ n) × (n ≤ length s.journal) × ((line s n).kind ≡ k))
       → Numbered h s
@@ -195,4 +205,5 @@ module _ {F : Type 0} (q : Rule) (R : ℕ) (law : Lawful q) (start : F) (w : Wor
         let y = ends_at m n x f in
         let b = starts n (omega (arith, y.stage_is)) in
         ((op n).begun, b.0, b.1, b.2, before_end n x m f);
+    one_unfinished = λ l m i j p a b x y u v. sym (at_work_on l i p a x u) ∙ at_work_on m j p b y v;
   }

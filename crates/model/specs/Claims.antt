@@ -70,7 +70,8 @@ module _ {F : Type 0} (h : History F) where
       ((m : ℕ) × (owner : Party) × (kind : ReadKind) × Starts m n owner (OperationKind.Read kind))
       × ((m : ℕ) × Finishes m n x)
 
-  -- The numbers tell operations apart: each is given once, has its line, and finishes at most once, after its start.
+  -- The numbers tell operations apart: each is given once, has its line, and finishes at most once, after its start. Of each
+  -- owner at most one operation is unfinished.
   pub record Numbered (s : State F) : Type 0 where
     pub in_journal : (m n : ℕ) (p : Party) (k : OperationKind) → Starts m n p k → (1 ≤ n) × (n ≤ length s.journal)
     pub its_line : (m n : ℕ) (p : Party) (k : OperationKind) → Starts m n p k
@@ -79,6 +80,8 @@ module _ {F : Type 0} (h : History F) where
     pub finished_once : (l m n : ℕ) (x y : Held F) → Finishes l n x → Finishes m n y → (l ≡ m) × (x ≡ y)
     pub started_first : (m n : ℕ) (x : Held F) → Finishes m n x
         → (l : ℕ) × (p : Party) × (k : OperationKind) × Starts l n p k × (l < m)
+    pub one_unfinished : (l m i j : ℕ) (p : Party) (a b : OperationKind) → Starts l i p a → Starts m j p b
+        → (Finished i → ⊥) → (Finished j → ⊥) → i ≡ j
 
   -- A write finishes with the stamp and the figure that it wrote.
   abbrev pub AsWritten : Type 0

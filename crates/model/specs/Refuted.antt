@@ -8,6 +8,7 @@ use Rattle.model.specs.declared.messages.MessageKind.{MessageKind}
 use Rattle.model.specs.declared.messages.Message.{Message}
 use Rattle.model.specs.declared.journal.OperationKind.{OperationKind}
 use Rattle.model.specs.declared.journal.ReadKind.{ReadKind}
+use Rattle.model.specs.declared.journal.Operation.{Operation}
 use Rattle.model.specs.declared.calls.Call.{Call}
 use Rattle.model.specs.declared.answers.Reply.{Reply}
 use Rattle.model.specs.declared.answers.Refusal.{Refusal}
@@ -34,6 +35,10 @@ second = next_stamp first
 abbrev pub put : ℕ → Stamp → ℕ → Message ℕ
 put n t f = new_message MessageKind.Put n Party.Writer (Party.Replica 0) (value t f)
 
+-- A QUERY of read n, of reader 0 to replica 2.
+abbrev pub query : ℕ → Message ℕ
+query n = new_message MessageKind.Query n (Party.Reader 0) (Party.Replica 2) (unused 0)
+
 -- Write n of a figure starts, and these messages are sent for it.
 abbrev pub write_starts : ℕ → ℕ → List (Message ℕ) → Event ℕ
 write_starts n f sent = record { call = Call.Write f; reply = Ok (Reply.Started n); taken = []; sent = sent }
@@ -59,6 +64,10 @@ number_given_twice = read_starts 1 0 ∷ finishes 1 no_stamp 0 ∷ read_starts 1
 -- Read 1 finishes twice.
 abbrev pub read_ends_twice : History ℕ
 read_ends_twice = read_starts 1 0 ∷ finishes 1 no_stamp 0 ∷ finishes 1 no_stamp 0 ∷ []
+
+-- Reader 0 starts read 2 while its read 1 is unfinished.
+abbrev pub two_at_once : History ℕ
+two_at_once = read_starts 1 0 ∷ read_starts 2 0 ∷ []
 
 -- Write 1 of the figure 10 finishes with this.
 abbrev pub write_ends : Stamp → ℕ → History ℕ
@@ -116,11 +125,19 @@ three_replicas = count_rule 3 1
 abbrev pub one_left : State ℕ
 one_left =
     with_messages (stopped (fresh three_replicas 0 1 64 8) (Party.Replica 2))
-    (new_message MessageKind.Query 1 (Party.Reader 0) (Party.Replica 2) (unused 0) ∷ [])
+    (query 1 ∷ [])
 
 -- A write for which one message more is sent than two for each replica.
 abbrev pub overspent : Rule → History ℕ
 overspent rule = write_starts 1 10 (replicate (2 * rule.size + 1) (put 1 first 10)) ∷ []
+
+-- The same, once a message of read 1 was copied: the write is operation 2.
+abbrev pub overspent_beside_a_copy : Rule → History ℕ
+overspent_beside_a_copy rule =
+    read_starts 1 0
+    ∷ record { call = Call.Duplicate 0; reply = Ok Reply.Done; taken = query 1 ∷ []; sent = [] }
+    ∷ write_starts 2 10 (replicate (2 * rule.size + 1) (put 2 first 10))
+    ∷ []
 
 -- A read of this kind, for which so many messages are sent.
 abbrev pub read_sends : ReadKind → ℕ → History ℕ
@@ -133,24 +150,33 @@ read_sends kind sent =
     }
     ∷ []
 
+-- The line of an operation that started at this event with x, and for which so many messages were sent.
+abbrev pub started_line : ℕ → OperationKind → Party → Held ℕ → ℕ → Operation ℕ
+started_line started kind owner x sent = record {
+  kind = kind;
+  owner = owner;
+  started = started;
+  finished = 0;
+  exchanges = 0;
+  stamp = x.stamp;
+  figure = x.figure;
+  sent = sent;
+}
+
 -- A register with one operation in its journal, which started with x and for which so many messages were sent. All its
 -- parties work, and no message waits.
 abbrev pub after_start : Rule → OperationKind → Party → Held ℕ → ℕ → State ℕ
-after_start rule kind owner x sent = with_journal (fresh rule 0 1 64 8) (
-    record {
-      kind = kind;
-      owner = owner;
-      started = 1;
-      finished = 0;
-      exchanges = 0;
-      stamp = x.stamp;
-      figure = x.figure;
-      sent = sent;
-    }
-    ∷ []) 0
+after_start rule kind owner x sent = with_journal (fresh rule 0 1 64 8) (started_line 1 kind owner x sent ∷ []) 0
 
 abbrev pub after_write : Rule → ℕ → State ℕ
 after_write rule = after_start rule OperationKind.Write Party.Writer (value first 10)
+
+-- The same with a read before the write, of whose messages none are counted.
+abbrev pub after_both : Rule → ℕ → State ℕ
+after_both rule sent = with_journal (fresh rule 0 1 64 8) (
+    started_line 1 (OperationKind.Read ReadKind.Quick) (Party.Reader 0) (unused 0) 0
+    ∷ started_line 2 OperationKind.Write Party.Writer (value first 10) sent
+    ∷ []) 0
 
 -- The limits hold of such a read.
 abbrev pub ReadWithin : Rule → ReadKind → ℕ → Type 0
@@ -168,6 +194,8 @@ pub record Refutable : Type 0 where
   pub repeats : (s : State ℕ) → Numbered read_ends_twice s → ⊥
   -- and one that finishes and never started
   pub unstarted : (s : State ℕ) → Numbered (finishes 1 no_stamp 0 ∷ []) s → ⊥
+  -- a reader that starts a second operation while its first is unfinished
+  pub overlaps : (s : State ℕ) → Numbered two_at_once s → ⊥
   -- a line of another kind or owner than the operation of its number
   pub mislabels : (rule : Rule) (kind : OperationKind) (owner : Party)
       → Numbered (write_starts 1 10 [] ∷ []) (after_start rule kind owner (value first 10) 0)
@@ -190,6 +218,9 @@ pub record Refutable : Type 0 where
   pub strands : Finishing three_replicas stranded one_left → ⊥
   -- a write that costs more than two messages for each replica, though no message of it was copied
   pub overspends : (rule : Rule) → Limits rule (overspent rule) (after_write rule (2 * rule.size + 1)) → ⊥
+  -- such a write though a message of another operation was copied
+  pub overspends_beside_a_copy : (rule : Rule)
+      → Limits rule (overspent_beside_a_copy rule) (after_both rule (2 * rule.size + 1)) → ⊥
   -- a quick or a settled read that costs more than four for each
   pub quick_overspends : (rule : Rule) → ReadWithin rule ReadKind.Quick (4 * rule.size + 1) → ⊥
   pub settled_overspends : (rule : Rule) → ReadWithin rule ReadKind.Settled (4 * rule.size + 1) → ⊥
