@@ -22,21 +22,21 @@ use Rattle.script.specs.Openings.{opening}
 use Rattle.script.specs.Rules.{rule_said}
 use Rattle.model.specs.declared.answers.Reply.{Reply}
 use Rattle.player.specs.Playing.{turned, answers, set_up, plain_line, call_answers, by_kind, opened, script_answers, played}
-use Rattle.player.specs.Served.{call_or, calls_in, told_line, told, ServedCalls, served_kind, served_script, ScriptServed}
+use Rattle.player.specs.Served.{call_or, calls_in, reply_line, reply_lines, ServedCalls, served_kind, served_script, ScriptServed}
 use Rattle.player.proofs.Opened.{opens, laws}
 
 module _ {F : Type 0} (kind : Ghosts F) (rule : Rule) where
   -- the answers line by line are the answers of the run of all calls
-  told_as : (ls : List (List ℕ)) (s : State F) (n : ℕ)
-      → answers kind rule s n ls ≡ told kind ls n (replies (run rule s (calls_in kind ls)).history)
-  unfolding answers told calls_in run
-  told_as [] s n = refl
-  told_as (l ∷ ls) s n = by (λ t. told_as ls t (n + 1)) (call_of kind l)
+  prints : (ls : List (List ℕ)) (s : State F) (n : ℕ)
+      → answers kind rule s n ls ≡ reply_lines kind ls n (replies (run rule s (calls_in kind ls)).history)
+  unfolding answers reply_lines calls_in run
+  prints [] s n = refl
+  prints (l ∷ ls) s n = by (λ t. prints ls t (n + 1)) (call_of kind l)
     where
-      by : ((t : State F) → answers kind rule t (n + 1) ls ≡ told kind ls (n + 1) (replies (run rule t (calls_in kind ls)).history))
+      by : ((t : State F) → answers kind rule t (n + 1) ls ≡ reply_lines kind ls (n + 1) (replies (run rule t (calls_in kind ls)).history))
           → (r : Result (Call F) TextFault)
           → line_shown kind.shown n (turned rule s r).answer ++ answers kind rule (turned rule s r).next (n + 1) ls
-          ≡ told_line kind (told kind ls) n r (replies (run rule s (call_or r (calls_in kind ls))).history)
+          ≡ reply_line kind (reply_lines kind ls) n r (replies (run rule s (call_or r (calls_in kind ls))).history)
       by rest (Ok c) = ap (λ x. line_shown kind.shown n (answer_of (step rule s c).reply) ++ x) (rest (step rule s c).next)
       by rest (Err e) = ap (λ x. line_shown kind.shown n (Err (ScriptFault.Text e)) ++ x) (rest s)
 
@@ -44,7 +44,7 @@ served_calls : {F : Type 0} (kind : Ghosts F) (h : Header) (ls : List (List ℕ)
     → ServedCalls kind h ls (plain_line 1 (Ok Reply.Done) ++ call_answers kind h ls)
 served_calls {F} kind h ls e = record {
   lawful = laws h e;
-  told_as = ap (λ (l : List ℕ). plain_line 1 (Ok Reply.Done) ++ l) (told_as kind (rule_said h.rule) ls (set_up kind h) 2);
+  prints = ap (λ (l : List ℕ). plain_line 1 (Ok Reply.Done) ++ l) (prints kind (rule_said h.rule) ls (set_up kind h) 2);
   served =
       serves F (rule_said h.rule) (laws h e) kind.starting _ _
       (runs_grow (rule_said h.rule) kind.starting [] (set_up kind h) (begun h.readers 1024 256) (calls_in kind ls));

@@ -12,21 +12,21 @@ use Rattle.script.specs.declared.fault.ScriptFault.{ScriptFault}
 use Rattle.script.specs.declared.header.Header.{Header}
 use Rattle.script.specs.declared.header.Kind.{Kind}
 use Rattle.script.specs.Answers.{LineAnswer, line_shown}
-use Rattle.player.specs.declared.session.Plant.{Plant}
-use Rattle.player.specs.declared.session.PlantDraft.{PlantDraft}
+use Rattle.player.specs.declared.session.AnyCluster.{AnyCluster}
+use Rattle.player.specs.declared.session.AnyDraft.{AnyDraft}
 use Rattle.player.specs.declared.session.Session.{Session}
 use Rattle.player.specs.Playing.{turn, answers, by_kind, opened, plain_line, script_answers, played}
-use Rattle.player.specs.Sessions.{first_answer, plant_ahead, ahead, PlantDraftOf, Drafts, draft_ahead, Founds}
+use Rattle.player.specs.Sessions.{first_answer, cluster_ahead, ahead, AnyDraftOf, Drafts, draft_ahead, Founds}
 
 -- A CALL LINE
 
 module _ {F : Type 0} (kind : Ghosts F) where
   -- what is printed of a line's answer is what is answered to that line alone
-  pub told : (rule : Rule) (s : State F) (n : ℕ) (l : List ℕ) (a : LineAnswer F) (all before after : List ℕ) (end : ℕ)
+  pub prints_answer : (rule : Rule) (s : State F) (n : ℕ) (l : List ℕ) (a : LineAnswer F) (all before after : List ℕ) (end : ℕ)
       → all ≡ answers kind rule s n (l ∷ []) → a ≡ (turn kind rule s l).answer
       → Printed before 0 (line_shown kind.shown n a) after end → Printed before 0 all after end
   unfolding answers
-  told rule s n l a all before after end is e p =
+  prints_answer rule s n l a all before after end is e p =
       subst (λ (bytes : List ℕ). Printed before 0 bytes after end)
       (ap (line_shown kind.shown n) e ∙ sym (append-nil (line_shown kind.shown n (turn kind rule s l).answer)) ∙ sym is) p
 
@@ -42,11 +42,11 @@ module _ {F : Type 0} (kind : Ghosts F) where
 -- no line, no answer
 pub ended : (s : Session) (ls : List (List ℕ)) → ls ≡ [] → ahead s ls ≡ []
 unfolding answers
-ended s ls e = ap (ahead s) e ∙ by_plant s.plant s.number
+ended s ls e = ap (ahead s) e ∙ by_cluster s.cluster s.number
   where
-    by_plant : (p : Plant) (n : ℕ) → plant_ahead p n [] ≡ []
-    by_plant (Plant.Tide x) n = refl
-    by_plant (Plant.Order x) n = refl
+    by_cluster : (p : AnyCluster) (n : ℕ) → cluster_ahead p n [] ≡ []
+    by_cluster (AnyCluster.Tide x) n = refl
+    by_cluster (AnyCluster.Order x) n = refl
 
 -- THE FIRST LINE
 
@@ -54,27 +54,32 @@ declined_shown : (r : Result Header ScriptFault) (e : ScriptFault) → Drafts r 
 declined_shown (Ok h) e d = absurd d
 declined_shown (Err f) e d = ap (λ (x : ScriptFault). plain_line 1 (Err x)) (sym d)
 
-pub declined_told : (r : Result Header ScriptFault) (e : ScriptFault) (before after : List ℕ) (end : ℕ) → Drafts r (Err e)
+pub declined_prints : (r : Result Header ScriptFault) (e : ScriptFault) (before after : List ℕ) (end : ℕ) → Drafts r (Err e)
     → Printed before 0 (plain_line 1 (Err e)) after end → Printed before 0 (first_answer r) after end
-declined_told r e before after end d p =
+declined_prints r e before after end d p =
     subst (λ (bytes : List ℕ). Printed before 0 bytes after end) (sym (declined_shown r e d)) p
+
+pub accepted_prints : (r : Result Header ScriptFault) (d : AnyDraft) (before after : List ℕ) (end : ℕ) → Drafts r (Ok d)
+    → Printed before 0 (plain_line 1 (Ok Reply.Done)) after end → Printed before 0 (first_answer r) after end
+accepted_prints (Ok h) d before after end t p = p
+accepted_prints (Err e) d before after end t p = absurd t
 
 pub declined_onward : (r : Result Header ScriptFault) (e : ScriptFault) (ls : List (List ℕ)) → Drafts r (Err e)
     → opened (λ h. by_kind h.kind h ls) r ≡ first_answer r ++ []
 declined_onward (Ok h) e ls d = absurd d
 declined_onward (Err f) e ls d = sym (append-nil (plain_line 1 (Err f)))
 
-pub drafts_accepted : (r : Result Header ScriptFault) (d : PlantDraft) → Drafts r (Ok d) → IsOk r
+pub drafts_accepted : (r : Result Header ScriptFault) (d : AnyDraft) → Drafts r (Ok d) → IsOk r
 drafts_accepted (Ok h) d t = refl
 drafts_accepted (Err e) d t = absurd t
 
-by_draft : (k : Kind) (h : Header) (d : PlantDraft) (ls : List (List ℕ)) → PlantDraftOf k h d → by_kind k h ls ≡ draft_ahead d ls
-by_draft Kind.Tide h (PlantDraft.Tide d) ls t = rw (t.0, t.1, t.2)
-by_draft Kind.Tide h (PlantDraft.Order d) ls t = absurd t
-by_draft Kind.Order h (PlantDraft.Tide d) ls t = absurd t
-by_draft Kind.Order h (PlantDraft.Order d) ls t = rw (t.0, t.1, t.2)
+by_draft : (k : Kind) (h : Header) (d : AnyDraft) (ls : List (List ℕ)) → AnyDraftOf k h d → by_kind k h ls ≡ draft_ahead d ls
+by_draft Kind.Tide h (AnyDraft.Tide d) ls t = rw (t.0, t.1, t.2)
+by_draft Kind.Tide h (AnyDraft.Order d) ls t = absurd t
+by_draft Kind.Order h (AnyDraft.Tide d) ls t = absurd t
+by_draft Kind.Order h (AnyDraft.Order d) ls t = rw (t.0, t.1, t.2)
 
-pub accepted_onward : (r : Result Header ScriptFault) (d : PlantDraft) (s : Session) (ls : List (List ℕ)) → Drafts r (Ok d) → Founds d s
+pub accepted_onward : (r : Result Header ScriptFault) (d : AnyDraft) (s : Session) (ls : List (List ℕ)) → Drafts r (Ok d) → Founds d s
     → opened (λ h. by_kind h.kind h ls) r ≡ first_answer r ++ ahead s ls
 accepted_onward (Ok h) d s ls t f =
     ap (λ x. plain_line 1 (Ok Reply.Done) ++ x) (by_draft h.kind h d ls t ∙ sym (f.onward ls))

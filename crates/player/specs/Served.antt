@@ -31,15 +31,15 @@ calls_in kind (l ∷ ls) = call_or (call_of kind l) (calls_in kind ls)
 
 -- The lines that are printed, from n on, where the calls have these replies: each line that says no call is declined, and
 -- each that says one is answered by the next reply.
-abbrev pub told_line : {F : Type 0} → Ghosts F → (ℕ → List (Answer F) → List ℕ) → ℕ → Result (Call F) TextFault
+abbrev pub reply_line : {F : Type 0} → Ghosts F → (ℕ → List (Answer F) → List ℕ) → ℕ → Result (Call F) TextFault
     → List (Answer F) → List ℕ
-told_line kind rest n (Err e) rs = line_shown kind.shown n (Err (ScriptFault.Text e)) ++ rest (n + 1) rs
-told_line kind rest n (Ok c) [] = []
-told_line kind rest n (Ok c) (r ∷ rs) = line_shown kind.shown n (answer_of r) ++ rest (n + 1) rs
+reply_line kind rest n (Err e) rs = line_shown kind.shown n (Err (ScriptFault.Text e)) ++ rest (n + 1) rs
+reply_line kind rest n (Ok c) [] = []
+reply_line kind rest n (Ok c) (r ∷ rs) = line_shown kind.shown n (answer_of r) ++ rest (n + 1) rs
 
-unfoldable pub told : {F : Type 0} → Ghosts F → List (List ℕ) → ℕ → List (Answer F) → List ℕ
-told kind [] n rs = []
-told kind (l ∷ ls) n rs = told_line kind (told kind ls) n (call_of kind l) rs
+unfoldable pub reply_lines : {F : Type 0} → Ghosts F → List (List ℕ) → ℕ → List (Answer F) → List ℕ
+reply_lines kind [] n rs = []
+reply_lines kind (l ∷ ls) n rs = reply_line kind (reply_lines kind ls) n (call_of kind l) rs
 
 -- The run of a script's calls.
 abbrev pub script_run : {F : Type 0} → Ghosts F → Header → List (List ℕ) → Run F
@@ -48,7 +48,7 @@ script_run kind h ls = run (rule_said h.rule) (set_up kind h) (calls_in kind ls)
 -- The rule is lawful; what is printed is the answer to the first line and then those of the run, and its history is served.
 pub record ServedCalls {F : Type 0} (kind : Ghosts F) (h : Header) (ls : List (List ℕ)) (out : List ℕ) : Type 0 where
   pub lawful : Lawful (rule_said h.rule)
-  pub told_as : out ≡ plain_line 1 (Ok Reply.Done) ++ told kind ls 2 (replies (script_run kind h ls).history)
+  pub prints : out ≡ plain_line 1 (Ok Reply.Done) ++ reply_lines kind ls 2 (replies (script_run kind h ls).history)
   pub served : Served (rule_said h.rule) kind.starting (script_run kind h ls).history (script_run kind h ls).state
 
 abbrev pub served_kind : Kind → Header → List (List ℕ) → List ℕ → Type 0

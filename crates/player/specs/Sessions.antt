@@ -13,8 +13,8 @@ use Rattle.script.specs.declared.fault.ScriptFault.{ScriptFault}
 use Rattle.script.specs.declared.header.Header.{Header}
 use Rattle.script.specs.declared.header.Kind.{Kind}
 use Rattle.script.specs.Rules.{rule_said}
-use Rattle.player.specs.declared.session.Plant.{Plant}
-use Rattle.player.specs.declared.session.PlantDraft.{PlantDraft}
+use Rattle.player.specs.declared.session.AnyCluster.{AnyCluster}
+use Rattle.player.specs.declared.session.AnyDraft.{AnyDraft}
 use Rattle.player.specs.declared.session.Session.{Session}
 use Rattle.player.specs.Playing.{plain_line, answers}
 
@@ -24,12 +24,12 @@ first_answer (Ok h) = plain_line 1 (Ok Reply.Done)
 first_answer (Err e) = plain_line 1 (Err e)
 
 -- The answers of a register to the lines to come, numbered from n on.
-abbrev pub plant_ahead : Plant → ℕ → List (List ℕ) → List ℕ
-plant_ahead (Plant.Tide x) n ls = answers tide_kind (cluster_rule x) (cluster_state x) n ls
-plant_ahead (Plant.Order x) n ls = answers order_kind (cluster_rule x) (cluster_state x) n ls
+abbrev pub cluster_ahead : AnyCluster → ℕ → List (List ℕ) → List ℕ
+cluster_ahead (AnyCluster.Tide x) n ls = answers tide_kind (cluster_rule x) (cluster_state x) n ls
+cluster_ahead (AnyCluster.Order x) n ls = answers order_kind (cluster_rule x) (cluster_state x) n ls
 
 abbrev pub ahead : Session → List (List ℕ) → List ℕ
-ahead s ls = plant_ahead s.plant s.number ls
+ahead s ls = cluster_ahead s.cluster s.number ls
 
 -- The same where there may be no session: then no line is answered.
 abbrev pub answers_ahead : Option Session → List (List ℕ) → List ℕ
@@ -40,24 +40,24 @@ answers_ahead (Some s) ls = ahead s ls
 abbrev pub DraftOf : {R F : Type 0} {g : RuleGhosts R} → Ghosts F → Header → Draft R F g → Type 0
 DraftOf kind h d = (drafted d ≡ rule_said h.rule) × (d.readers ≡ h.readers) × (d.start ≡ kind.starting)
 
-abbrev pub PlantDraftOf : Kind → Header → PlantDraft → Type 0
-PlantDraftOf Kind.Tide h (PlantDraft.Tide d) = DraftOf tide_kind h d
-PlantDraftOf Kind.Tide h (PlantDraft.Order d) = ⊥
-PlantDraftOf Kind.Order h (PlantDraft.Tide d) = ⊥
-PlantDraftOf Kind.Order h (PlantDraft.Order d) = DraftOf order_kind h d
+abbrev pub AnyDraftOf : Kind → Header → AnyDraft → Type 0
+AnyDraftOf Kind.Tide h (AnyDraft.Tide d) = DraftOf tide_kind h d
+AnyDraftOf Kind.Tide h (AnyDraft.Order d) = ⊥
+AnyDraftOf Kind.Order h (AnyDraft.Tide d) = ⊥
+AnyDraftOf Kind.Order h (AnyDraft.Order d) = DraftOf order_kind h d
 
 -- What drafting comes to, where the first line comes to this.
-abbrev pub Drafts : Result Header ScriptFault → Result PlantDraft ScriptFault → Type 0
-Drafts (Ok h) (Ok d) = PlantDraftOf h.kind h d
+abbrev pub Drafts : Result Header ScriptFault → Result AnyDraft ScriptFault → Type 0
+Drafts (Ok h) (Ok d) = AnyDraftOf h.kind h d
 Drafts (Ok h) (Err e) = ⊥
 Drafts (Err e) (Ok d) = ⊥
 Drafts (Err e) (Err f) = f ≡ e
 
 -- The session of a draft, before the second line.
-abbrev pub draft_ahead : PlantDraft → List (List ℕ) → List ℕ
-draft_ahead (PlantDraft.Tide d) ls = answers tide_kind (drafted d) (fresh (drafted d) d.start d.readers 1024 256) 2 ls
-draft_ahead (PlantDraft.Order d) ls = answers order_kind (drafted d) (fresh (drafted d) d.start d.readers 1024 256) 2 ls
+abbrev pub draft_ahead : AnyDraft → List (List ℕ) → List ℕ
+draft_ahead (AnyDraft.Tide d) ls = answers tide_kind (drafted d) (fresh (drafted d) d.start d.readers 1024 256) 2 ls
+draft_ahead (AnyDraft.Order d) ls = answers order_kind (drafted d) (fresh (drafted d) d.start d.readers 1024 256) 2 ls
 
-pub record Founds (d : PlantDraft) (s : Session) : Type 0 where
+pub record Founds (d : AnyDraft) (s : Session) : Type 0 where
   pub onward : (ls : List (List ℕ)) → ahead s ls ≡ draft_ahead d ls
   pub number : s.number ≡ 2

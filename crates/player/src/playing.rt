@@ -89,7 +89,7 @@ fn play_lines<W: Write>(mut session: Session, lines: LineCursor<'_>, to: &mut W)
 {
     let mut buffer = [0; MOST_ANSWER_BYTES];
     for line in lines {
-        let printed = session.line(line, &mut buffer);
+        let printed = session.line(line, &mut buffer).unwrap();
         to.write_all(&buffer[..printed])?;
     }
     Ok(())

@@ -5,7 +5,7 @@ use script::ScriptRule;
 /// A script that is being played, line by line. It has its tables, and needs no more memory.
 #[derive(Drop)]
 pub struct Session {
-    plant: Plant,
+    cluster: AnyCluster,
     // the number of the next line
     number: u32,
 }
@@ -21,14 +21,14 @@ pub struct Opening {
 
 // The register of a script, by its kind of figure.
 #[derive(Drop)]
-enum Plant {
+enum AnyCluster {
     Tide(Cluster<ScriptRule, Tide>),
     Order(Cluster<ScriptRule, DigOrder>),
 }
 
 // Its draft.
 #[derive(Drop)]
-enum PlantDraft {
+enum AnyDraft {
     Tide(Draft<ScriptRule, Tide>),
     Order(Draft<ScriptRule, DigOrder>),
 }

@@ -1,4 +1,5 @@
 use Rattle.std.proofs.Common.{◌++◌, ap, ◌∙◌, sym, length, take, arith}
+use Rattle.std.proofs.lemmas.Option.{MatchOption-at_some}
 use Rattle.text.specs.LineCursors.{lines_ahead}
 use Rattle.player.specs.Sessions.{ahead}
 use Rattle.player.proofs.Sessions.{ended}
@@ -16,13 +17,14 @@ pub loop-line-preserved : goal.loop-line-preserved
 loop-line-preserved g c =
     let inv = c.loop-line.invariant in
     let next = c.in-Some.ensures.steps in
-    let e = c.line-printed.ensures in
-    let front = printed_front _ _ _ _ e.answer in (
-      written_more _ _ _ (take c.line-printed.result c.line-printed.new.buffer) _ _ _ inv.0
-          (ap (ahead c.loop-line.session) next ∙ e.onward (lines_ahead c.next.new.self)
-          ∙ ap (λ x. x ++ ahead c.line-printed.new.self (lines_ahead c.next.new.self)) (sym front))
+    let e = c.line.ensures in
+    let is = c.unwrap-printed.ensures in
+    let front = printed_front _ _ _ _ (MatchOption-at_some _ _ _ is e.answer) in (
+      written_more _ _ _ (take c.unwrap-printed.result c.line.new.buffer) _ _ _ inv.0
+          (ap (ahead c.loop-line.session) next ∙ MatchOption-at_some _ _ _ is e.onward (lines_ahead c.next.new.self)
+          ∙ ap (λ x. x ++ ahead c.line.new.self (lines_ahead c.next.new.self)) (sym front))
           c.in_ok-write_all.ensures.bytes,
-      omega (arith, inv.1, e.number, ap length next),
+      omega (arith, inv.1, MatchOption-at_some _ _ _ is e.number, ap length next),
     )
 
 pub returns : goal.returns
