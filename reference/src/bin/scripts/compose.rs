@@ -18,6 +18,7 @@ pub enum Flavour {
     Doubled,
     Halting,
     Relays,
+    WideRelays,
     Mixed,
     LongJournal,
     FullRoom,
@@ -32,13 +33,14 @@ pub enum Flavour {
 
 impl Flavour {
     /// Each flavour with its name and how often it is chosen.
-    pub const ALL: [(Flavour, &'static str, u32); 16] = [
+    pub const ALL: [(Flavour, &'static str, u32); 17] = [
         (Flavour::Steady, "steady", 12),
         (Flavour::Busy, "busy", 12),
         (Flavour::Lossy, "lossy", 8),
         (Flavour::Doubled, "doubled", 8),
         (Flavour::Halting, "halting", 8),
         (Flavour::Relays, "relays", 10),
+        (Flavour::WideRelays, "wide-relays", 3),
         (Flavour::Mixed, "mixed", 10),
         (Flavour::LongJournal, "long-journal", 2),
         (Flavour::FullRoom, "full-room", 3),
@@ -135,6 +137,16 @@ const RELAYS: Mix = Mix {
     ..BUSY
 };
 
+/// Of 24 replicas few reads fit into the room at a time.
+const WIDE_RELAYS: Mix = Mix {
+    write: 1,
+    read: 2,
+    deliver: 300,
+    duplicate: 3,
+    kinds: [0, 0, 1],
+    ..STEADY
+};
+
 const MIXED: Mix = Mix {
     drop: 4,
     duplicate: 10,
@@ -175,6 +187,7 @@ fn mix(flavour: Flavour) -> Mix {
         Flavour::Doubled => DOUBLED,
         Flavour::Halting => HALTING,
         Flavour::Relays => RELAYS,
+        Flavour::WideRelays => WIDE_RELAYS,
         Flavour::Mixed | Flavour::DamagedBytes => MIXED,
         Flavour::DamagedLines => DAMAGED,
         Flavour::FullRoom => FULL_ROOM,
@@ -292,12 +305,16 @@ fn limits(random: &mut Random) -> Vec<u8> {
 
 /// A script that plays a register, of at most so many bytes.
 fn run(flavour: Flavour, random: &mut Random, most_bytes: usize) -> Vec<u8> {
-    let header = headers::good(random);
+    let header = match flavour {
+        Flavour::WideRelays => headers::widest(random),
+        _ => headers::good(random),
+    };
     let session = Session::open(header.as_bytes()).expect("the header is a good one");
     let size = session.register().replicas().len();
     let lines = match flavour {
         Flavour::LongJournal => usize::MAX,
         Flavour::FullRoom => 600 + random.below(2_000),
+        Flavour::WideRelays => 700 + random.below(1_000),
         _ => 20 + random.below(40 + 25 * size),
     };
     let mut composer = Composer {

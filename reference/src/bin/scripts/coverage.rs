@@ -39,12 +39,14 @@ const FAULTS: [&str; 26] = [
 ];
 
 /// Every other thing that scripts should make happen.
-const EVENTS: [&str; 41] = [
+const EVENTS: [&str; 43] = [
     "done write 2",
     "done quick 2",
     "done quick 4",
     "done settled 4",
     "done relay 3",
+    "done with over 255 messages",
+    "done with over 511 messages",
     "start write",
     "start quick",
     "start settled",
@@ -184,6 +186,11 @@ impl Coverage {
                 self.note(&format!("done {kind} {}", finish.exchanges));
                 if session.kind() == FigureKind::Order {
                     self.note("done with an order");
+                }
+                for most in [255, 511] {
+                    if finish.sent > most {
+                        self.note(&format!("done with over {most} messages"));
+                    }
                 }
             }
         }

@@ -55,6 +55,21 @@ fn readers(random: &mut Random) -> u32 {
 
 /// A first line with a rule that can be made.
 pub fn good(random: &mut Random) -> String {
+    made(random, |random| size(random, 24), size)
+}
+
+/// One with a rule of 24 replicas.
+pub fn widest(random: &mut Random) -> String {
+    let divisor = |random: &mut Random| random.pick(&[1, 2, 3, 4, 6, 8, 12, 24]);
+    made(random, divisor, |_, most| most)
+}
+
+/// `part` gives the rows of a grid or a number of groups, `size` what they have room for, and the size of a count.
+fn made(
+    random: &mut Random,
+    part: impl Fn(&mut Random) -> u32,
+    size: impl Fn(&mut Random, u32) -> u32,
+) -> String {
     let readers = readers(random);
     match random.below(4) {
         0 => {
@@ -63,7 +78,7 @@ pub fn good(random: &mut Random) -> String {
             header(random, readers, "count", &[size, faults])
         }
         1 => {
-            let rows = size(random, 24);
+            let rows = part(random);
             let columns = size(random, 24 / rows);
             header(random, readers, "grid", &[rows, columns])
         }
@@ -73,7 +88,7 @@ pub fn good(random: &mut Random) -> String {
             header(random, readers, "lead", &numbers)
         }
         _ => {
-            let groups = size(random, 24);
+            let groups = part(random);
             let places = size(random, 24 / groups);
             let numbers = [
                 groups,

@@ -15,7 +15,7 @@ use std::io::{self, Write};
 use std::path::PathBuf;
 use std::process::ExitCode;
 
-use compare::Comparison;
+use compare::{Comparison, Passing};
 use compose::Flavour;
 use coverage::Coverage;
 use random::Random;
@@ -25,8 +25,9 @@ const USAGE: &str = "usage:
   scripts flavours                          list the flavours
   scripts stats N [SEED]                    count what N scripts cover
   scripts cover FILE...                     count what these scripts cover
-  scripts compare N SEED PROGRAM DIRECTORY [FLAVOUR...]
-                                            compare a program with the reference
+  scripts compare [--file] N SEED PROGRAM DIRECTORY [FLAVOUR...]
+                                            compare a program with the reference; it gets
+                                            each script on standard input, or its file
   scripts large NAME                        print a large script for measuring
   scripts large                             list the large scripts";
 
@@ -65,8 +66,12 @@ fn cover(paths: &[&str]) -> Result<bool, Box<dyn Error>> {
 }
 
 /// Compares scripts of the flavours in turn, or each of its seed's own where there is none.
-fn compare(arguments: &[&str; 4], flavours: &[&str]) -> Result<bool, Box<dyn Error>> {
-    let [count, seed, program, directory] = *arguments;
+fn compare(
+    passing: Passing,
+    arguments: [&str; 4],
+    flavours: &[&str],
+) -> Result<bool, Box<dyn Error>> {
+    let [count, seed, program, directory] = arguments;
     let (count, seed): (u64, u64) = (count.parse()?, seed.parse()?);
     let flavours: Vec<_> = flavours
         .iter()
@@ -75,6 +80,7 @@ fn compare(arguments: &[&str; 4], flavours: &[&str]) -> Result<bool, Box<dyn Err
     let mut in_turn = flavours.iter().copied().cycle();
     let comparison = Comparison {
         program: PathBuf::from(program),
+        passing,
         directory: PathBuf::from(directory),
     };
     fs::create_dir_all(&comparison.directory)?;
@@ -110,9 +116,14 @@ fn run(arguments: &[&str]) -> Result<bool, Box<dyn Error>> {
         ["stats", count] => stats(count, "1"),
         ["stats", count, seed] => stats(count, seed),
         ["cover", ref paths @ ..] => cover(paths),
-        ["compare", count, seed, program, directory, ref flavours @ ..] => {
-            compare(&[count, seed, program, directory], flavours)
+        ["compare", "--file", count, seed, program, directory, ref flavours @ ..] => {
+            compare(Passing::File, [count, seed, program, directory], flavours)
         }
+        ["compare", count, seed, program, directory, ref flavours @ ..] => compare(
+            Passing::StandardInput,
+            [count, seed, program, directory],
+            flavours,
+        ),
         ["large"] => list(large::LARGE.map(|(name, ..)| name)),
         ["large", name] => print_large(name),
         _ => Err(USAGE.into()),
