@@ -4,7 +4,7 @@
 #![tactic(auto)]
 
 use anyhow::anyhow;
-use console::{only_argument, report};
+use console::{Failure, Request, VERSION, only_argument, report};
 use player::{PlayFault, play_through};
 use std::env;
 use std::fs::File;
@@ -12,29 +12,42 @@ use std::io::{BufWriter, Write};
 use std::process::ExitCode;
 
 const USAGE: &str = "usage: bench [FILE]
-Plays the script in FILE, or on standard input, and prints an answer to each of its lines.
-docs/SCRIPT.md says what a script is and what is answered.
+Plays the script in FILE, or on standard input where there is no FILE or it is -, and prints an answer to each of its lines.
+docs/SCRIPT.md says what a script is and what is answered, docs/BENCH.md how the program ends.
+
+  -h, --help       prints this
+  -V, --version    prints the version
 ";
 
 fn main(rt: HostRuntime) -> ExitCode {
     report(&rt, "bench", run(&rt))
 }
 
-fn run(rt: &HostRuntime) -> anyhow::Result<()> {
+fn run(rt: &HostRuntime) -> Result<(), Failure> {
     let words: Vec<String> = env::args(rt)?.collect(rt.alloc())?;
-    let name = only_argument(words.as_slice())?.map(|word| word.as_str());
-    if name == Some("--help") {
-        rt.stdout().write_all(USAGE.as_bytes())?;
-        return Ok(());
+    let word = only_argument(words.as_slice())?.map(|word| word.as_str());
+    match Request::of(word)? {
+        Request::Help => print!(rt; "{USAGE}")?,
+        Request::Version => println!(rt; "bench {VERSION}")?,
+        Request::Work(name) => play(rt, name)?,
     }
+    Ok(())
+}
+
+// Plays the script in the file of this name, or on standard input. The answers leave the buffer when it is full and at the end.
+fn play(rt: &HostRuntime, name: Option<&str>) -> Result<(), Failure> {
     let mut out = BufWriter::new(rt.alloc(), rt.stdout())?;
-    match name {
-        Some(name) => told(rt, name, play_file(rt, name, &mut out)),
-        None => told(
-            rt,
-            "standard input",
-            play_through(rt.alloc(), rt.stdin(), &mut out),
-        ),
+    let played = match name {
+        Some(name) => play_file(rt, name, &mut out),
+        None => play_through(rt.alloc(), rt.stdin(), &mut out),
+    };
+    match played {
+        Ok(()) => Ok(()),
+        Err(PlayFault::Read(e)) => {
+            let name = name.unwrap_or("standard input");
+            Err(anyhow!(format!(in rt.alloc(); "cannot read {name}: {e}")?).into())
+        }
+        Err(PlayFault::Play(e)) => Err(e.into()),
     }
 }
 
@@ -42,14 +55,5 @@ fn play_file<W: Write>(rt: &HostRuntime, name: &str, out: &mut W) -> Result<(), 
     match File::open(rt, name) {
         Ok(file) => play_through(rt.alloc(), file, out),
         Err(e) => Err(PlayFault::Read(e)),
-    }
-}
-
-// What is told of a fault. One in reading names what was read.
-fn told(rt: &HostRuntime, name: &str, outcome: Result<(), PlayFault>) -> anyhow::Result<()> {
-    match outcome {
-        Ok(()) => Ok(()),
-        Err(PlayFault::Read(e)) => Err(anyhow!(format!(in rt.alloc(); "cannot read {name}: {e}")?)),
-        Err(PlayFault::Play(e)) => Err(e.into()),
     }
 }

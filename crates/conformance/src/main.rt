@@ -7,34 +7,42 @@ mod comparing;
 mod pack;
 
 use anyhow::anyhow;
-use console::{only_argument, report};
+use console::{Failure, Request, VERSION, only_argument, report};
 use std::env;
-use std::io::Write;
 use std::process::ExitCode;
 
 const USAGE: &str = "usage: conformance [FOLDER]
 Plays each script of the pack in FOLDER, or where it runs, and compares the answers with the stored ones.
 docs/CONFORMANCE.md says what a pack is.
+
+  -h, --help       prints this
+  -V, --version    prints the version
 ";
 
 fn main(rt: HostRuntime) -> ExitCode {
     report(&rt, "conformance", run(&rt))
 }
 
-fn run(rt: &HostRuntime) -> anyhow::Result<()> {
+fn run(rt: &HostRuntime) -> Result<(), Failure> {
     let words: Vec<String> = env::args(rt)?.collect(rt.alloc())?;
-    let folder = only_argument(words.as_slice())?.map_or(".", |word| word.as_str());
-    if folder == "--help" {
-        rt.stdout().write_all(USAGE.as_bytes())?;
-        return Ok(());
+    let word = only_argument(words.as_slice())?.map(|word| word.as_str());
+    match Request::of(word)? {
+        Request::Help => print!(rt; "{USAGE}")?,
+        Request::Version => println!(rt; "conformance {VERSION}")?,
+        Request::Work(folder) => compare_pack(rt, folder.unwrap_or("."))?,
     }
+    Ok(())
+}
+
+// Compares the answers to each script of the pack in this folder with the stored ones.
+fn compare_pack(rt: &HostRuntime, folder: &str) -> Result<(), Failure> {
     let index = pack::read_index(rt, folder)?;
     let names: Vec<&str> = index.lines().collect(rt.alloc())?;
     let found = pack::compare_all(rt, folder, names.as_slice())?;
     let differ = comparing::differing(found.as_slice());
     println!(rt; "{} scripts, {differ} differ", names.len())?;
     if differ != 0 {
-        return Err(anyhow!("not all answers are the stored ones"));
+        return Err(anyhow!("not all answers are the stored ones").into());
     }
     Ok(())
 }

@@ -2,8 +2,9 @@ ghost use Rattle.std.specs.Prelude.{◌≡◌, ◌≤◌, length, string_len, ve
 
 use crate::comparing::compare;
 use anyhow::{Context, anyhow};
-use console::read_file;
+use console::{Failure, read_file};
 use player::MOST_BYTES;
+use std::alloc::AllocError;
 
 // A longer index is refused.
 const MOST_INDEX_BYTES: u64 = 65536;
@@ -11,14 +12,17 @@ const MOST_INDEX_BYTES: u64 = 65536;
 // A script has at most as many lines as bytes, and an answer at most 80 bytes. One byte more shows that a stored file is too long.
 const MOST_ANSWER_BYTES: u64 = MOST_BYTES as u64 * 80 + 1;
 
-/// The names of a pack's scripts, one a line.
+/// The names of a pack's scripts, one a line. An empty index is refused.
 pub fn read_index(rt: &HostRuntime, folder: &str) -> anyhow::Result<String>
-    ensures { IfOk result (λ names. string_len names ≤ 65536) }
+    ensures { IfOk result (λ names. (1 ≤ string_len names) × (string_len names ≤ 65536)) }
 {
     let name = format!(in rt.alloc(); "{folder}/index")?;
     let bytes = read_file(rt, name.as_str(), MOST_INDEX_BYTES + 1)?;
     if bytes.len() as u64 > MOST_INDEX_BYTES {
         return Err(anyhow!("{name} is longer than 65,536 bytes"));
+    }
+    if bytes.is_empty() {
+        return Err(anyhow!("{name} is empty"));
     }
     String::from_utf8(bytes).context(format_args!("{name} is no text"))
 }
@@ -28,7 +32,7 @@ pub fn compare_all(
     rt: &HostRuntime,
     folder: &str,
     names: &[&str],
-) -> anyhow::Result<Vec<Option<usize>>>
+) -> Result<Vec<Option<usize>>, Failure>
     ensures { IfOk result (λ found. vec_len found ≡ length names.now) }
 {
     let mut found = Vec::new(rt.alloc());
@@ -38,7 +42,7 @@ pub fn compare_all(
             None => println!(rt; "agrees {name}")?,
             Some(line) => println!(rt; "differs {name} at line {line}")?,
         }
-        found.push(difference)?;
+        found.push(difference).map_err(AllocError::from)?;
     }
     Ok(found)
 }

@@ -1,15 +1,50 @@
-ghost use Rattle.std.specs.Prelude.{◌≡◌, if◌then◌else◌, is_ok};
+ghost use Rattle.std.specs.Prelude.{◌≡◌, if◌then◌else◌};
+ghost use Rattle.console.specs.Endings.{ended_well};
 
+use std::alloc::AllocError;
+use std::io;
+use std::io::ErrorKind;
 use std::process::ExitCode;
 
-/// The status that the program of this name ends with. What it failed of is told on standard error.
-pub fn report(rt: &HostRuntime, program: &str, outcome: anyhow::Result<()>) -> ExitCode
-    ensures { result ≡ (if is_ok outcome then ExitCode.SUCCESS else ExitCode.FAILURE) }
+/// Why a program ends before its work is done.
+#[derive(Debug, Drop)]
+pub enum Failure {
+    /// Whoever reads what it prints has had enough.
+    OutputClosed,
+    Fault(anyhow::Error),
+}
+
+impl From<anyhow::Error> for Failure {
+    fn from(e: anyhow::Error) -> Failure {
+        Failure::Fault(e)
+    }
+}
+
+impl From<AllocError> for Failure {
+    fn from(e: AllocError) -> Failure {
+        Failure::Fault(e.into())
+    }
+}
+
+impl From<io::Error> for Failure {
+    fn from(e: io::Error) -> Failure {
+        match e.kind() {
+            ErrorKind::BrokenPipe => Failure::OutputClosed,
+            _ => Failure::Fault(e.into()),
+        }
+    }
+}
+
+/// The status that the program of this name ends with. A fault is told on standard error.
+pub fn report(rt: &HostRuntime, program: &str, outcome: Result<(), Failure>) -> ExitCode
+    ensures { result ≡ (if ended_well outcome then ExitCode.SUCCESS else ExitCode.FAILURE) }
 {
-    let Err(fault) = outcome else {
-        return ExitCode::SUCCESS;
-    };
-    // Where standard error takes nothing, the status alone tells.
-    let _ = eprintln!(rt; "{program}: {fault}");
-    ExitCode::FAILURE
+    match outcome {
+        Ok(()) | Err(Failure::OutputClosed) => ExitCode::SUCCESS,
+        Err(Failure::Fault(fault)) => {
+            // Where standard error takes nothing, the status alone tells.
+            let _ = eprintln!(rt; "{program}: {fault}");
+            ExitCode::FAILURE
+        }
+    }
 }

@@ -6,16 +6,6 @@ use std::fs::File;
 use std::io;
 use std::io::Read;
 
-/// The first bytes in the file of this name, or else on standard input, at most so many. What a file holds no clause can say.
-pub fn read_input(rt: &HostRuntime, name: Option<&str>, most: u64) -> anyhow::Result<Vec<u8>>
-    ensures { IfOk result (λ v. vec_len v ≤ most) }
-{
-    match name {
-        Some(name) => read_file(rt, name, most),
-        None => Ok(read_at_most(rt.alloc(), rt.stdin(), most)?),
-    }
-}
-
 /// The first bytes in the file of this name, at most so many.
 pub fn read_file(rt: &HostRuntime, name: &str, most: u64) -> anyhow::Result<Vec<u8>>
     ensures { IfOk result (λ v. vec_len v ≤ most) }

@@ -8,7 +8,7 @@
 mod memory;
 mod service;
 
-use console::report;
+use console::{Failure, report};
 use figure::{FigureKind, Tide};
 use memory::Memory;
 use model::{Call, Refusal, Reply};
@@ -24,7 +24,7 @@ fn main(rt: HostRuntime) -> ExitCode {
 
 // No `unwrap` here can fail: the check proves it, from what the makers of rules, drafts, registers and tides promise.
 #[tactic(auto, unfolding(text::specs::Partial::if_within))]
-fn run(rt: &HostRuntime) -> anyhow::Result<()> {
+fn run(rt: &HostRuntime) -> Result<(), Failure> {
     let draft = Draft::new(Count::new(3, 1).unwrap(), 1, Tide::start()).unwrap();
     println!(rt; "drafted: 3 replicas, of which 1 may fail, and 1 reader")?;
     let mut memory = Memory::blank();

@@ -1,7 +1,7 @@
 -- What is written, piece by piece.
 use Rattle.std.proofs.Common.{◌≡◌, ℕ, ◌+◌, ◌<◌, List, [], ◌++◌, length, take, drop, Some, None, Option, sym, inl, inr, ap, ◌∙◌, append_assoc, append-nil, subst, ap₂, arith}
 use Rattle.std.proofs.Math.Seq.{take-append_seam}
-use Rattle.std.specs.Option.{IfSome, option_map}
+use Rattle.std.specs.Option.{IfSome}
 use Rattle.std.specs.Io.KnownBytes.{Appends, Keeps}
 use Rattle.std.proofs.lemmas.Bool.{cases_lt, lt-ltb}
 use Rattle.std.proofs.lemmas.List.{length-take-le, take_all}
@@ -64,11 +64,6 @@ played_front bytes = elim (cases_lt 65536 (length bytes)) [
       rw (lt-ltb 65536 (length (take 65537 bytes)) front, lt-ltb 65536 (length bytes) l)
   | inr h ↦ ap played (take_all 65537 bytes (omega arith))
 ]
-
-pub read_front : (known : Option (List ℕ)) (limit : ℕ) (old items : List ℕ) → limit ≡ 65537 → old ≡ []
-    → IfSome (option_map (take limit) known) (λ xs. items ≡ old ++ xs) → IfSome known (λ bytes. items ≡ take 65537 bytes)
-read_front None limit old items l o r = tt
-read_front (Some bytes) limit old items l o r = r ∙ ap₂ (λ x n. x ++ take n bytes) o l
 
 pub played_read : (known : Option (List ℕ)) (items : List ℕ) (a b c : Option (List ℕ)) → IfSome known (λ bytes. items ≡ take 65537 bytes)
     → Appends a b (played items) → Keeps b c → IfSome known (λ bytes. Appends a c (played bytes))

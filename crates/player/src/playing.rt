@@ -1,4 +1,4 @@
-ghost use Rattle.std.specs.Prelude.{◌≡◌, ◌+◌, ◌^◌, ◌<◌, length, take, IfOk, OnOk, IfSome};
+ghost use Rattle.std.specs.Prelude.{◌≡◌, ◌+◌, ◌^◌, ◌<◌, length, IfOk, OnOk, IfSome};
 ghost use Rattle.std.specs.Io.KnownBytes.{Appends};
 ghost use Rattle.text.specs.LineCursors.{lines_ahead};
 ghost use Rattle.player.specs.Playing.{played};
@@ -8,6 +8,7 @@ ghost use Rattle.player.specs.Served.{ScriptServed};
 use crate::fault::PlayFault;
 use crate::printing::{MOST_ANSWER_BYTES, print_line};
 use crate::session::Session;
+use console::read_at_most;
 use figure::Tide;
 use script::{ScriptFault, TextFault};
 use std::alloc::{AllocError, Global};
@@ -41,22 +42,14 @@ pub fn play_through<R: Read + Drop, W: Write>(
     ensures { OnOk result (IfSome (R.remaining from) (λ bytes.
         Appends (W.contents to.old) (W.contents to.new) (played bytes))) }
 {
-    let script = match read_script(heap, from) {
+    // one byte more than a script may have: so one that is too long is seen to be
+    let script = match read_at_most(heap, from, MOST_BYTES as u64 + 1) {
         Ok(script) => script,
         Err(e) => return Err(PlayFault::Read(e)),
     };
     play_to(heap, script.as_slice(), to)?;
     to.flush()?;
     Ok(())
-}
-
-// The script that there is to read, or its front if it is too long: one byte more than a script may have shows that.
-fn read_script<R: Read + Drop>(heap: Global, from: R) -> io::Result<Vec<u8>>
-    ensures { IfOk result (λ script. IfSome (R.remaining from) (λ bytes. script.items ≡ take 65537 bytes)) }
-{
-    let mut script = Vec::new(heap);
-    from.take(MOST_BYTES as u64 + 1).read_to_end(&mut script)?;
-    Ok(script)
 }
 
 /// Plays a script, whatever its bytes are, and writes the answers as it goes.
