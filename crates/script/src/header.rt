@@ -5,6 +5,7 @@ ghost use Rattle.script.specs.Headers.{header_rest, header_of};
 
 use crate::fault::TextFault;
 use crate::words::number_in;
+use figure::{DigOrder, FigureKind, Tide};
 use text::{FieldCursor, is_text, is_word};
 
 /// The kind of figure that a register holds.
@@ -103,10 +104,12 @@ fn rule_word(word: &[u8]) -> Option<RuleWord>
 fn kind_word(word: &[u8]) -> Option<Kind>
     ensures { result ≡ kind_word word.now }
 {
-    match word {
-        b"tide" => Some(Kind::Tide),
-        b"order" => Some(Kind::Order),
-        _ => None,
+    if is_word(word, Tide::word()) {
+        Some(Kind::Tide)
+    } else if is_word(word, DigOrder::word()) {
+        Some(Kind::Order)
+    } else {
+        None
     }
 }
 
