@@ -1,10 +1,11 @@
 -- A register with its tables, as one state of the model, and what a call on it carries.
-use Rattle.std.specs.Prelude.{◌≡◌, ℕ, ◌*◌, Bool, true, false, [], replicate, Ok, Err, vec_items, vec_len, Result}
+use Rattle.std.specs.Prelude.{◌≡◌, ℕ, ◌*◌, true, false, [], replicate, Ok, Err, vec_items, vec_len, Result}
 use Rattle.quorum.specs.Sets.{Rule}
 use Rattle.quorum.specs.Laws.{Lawful}
 use Rattle.quorum.specs.declared.system.QuorumSystem.{Ghosts}
 use Rattle.model.specs.declared.calls.Call.{Call}
 use Rattle.model.specs.Answers.{Answer}
+use Rattle.model.specs.declared.answers.Refusal.{Refusal}
 use Rattle.model.specs.State.{State, fresh, new_replica, new_reader, new_mark}
 use Rattle.model.specs.Steps.{step}
 use Rattle.model.specs.History.{Grows}
@@ -48,10 +49,12 @@ pub record NewCluster {R F : Type 0} {g : Ghosts R} (d : Draft R F g) (message_r
   pub begins : Grows (cluster_rule x) x.register.start [] (cluster_state x)
   pub serves : Lawful (cluster_rule x) → Served (cluster_rule x) x.register.start [] (cluster_state x)
 
--- Whether the rooms were within their limits where a draft was not founded.
-abbrev pub within_limits : UnfoundedCause → Bool
-within_limits UnfoundedCause.Rooms = false
-within_limits (UnfoundedCause.Memory e) = true
+-- What keeps a draft from being founded: rooms outside their limits, which is the refusal of a table's length, or within them
+-- want of memory.
+abbrev pub Hinders : {R F : Type 0} {g : Ghosts R} → Draft R F g → ℕ → ℕ → UnfoundedCause → Type 0
+Hinders d message_room journal_room (UnfoundedCause.Refused e) =
+    (rooms_fit d message_room journal_room ≡ false) × (e ≡ Refusal.TableLength)
+Hinders d message_room journal_room (UnfoundedCause.Memory e) = rooms_fit d message_room journal_room ≡ true
 
 -- What founding comes to: a new cluster, or the draft as it was, with the cause.
 abbrev pub Founded : {R F : Type 0} {g : Ghosts R} → Draft R F g → ℕ → ℕ → Result (Cluster R F g) (Unfounded R F g)
@@ -59,7 +62,7 @@ abbrev pub Founded : {R F : Type 0} {g : Ghosts R} → Draft R F g → ℕ → �
 Founded d message_room journal_room (Ok x) =
     (rooms_fit d message_room journal_room ≡ true) × NewCluster d message_room journal_room x
 Founded d message_room journal_room (Err u) =
-    (rooms_fit d message_room journal_room ≡ within_limits u.cause) × (u.draft ≡ d)
+    Hinders d message_room journal_room u.cause × (u.draft ≡ d)
 
 -- A call is the model's step: its answer, and what it leaves. It makes each history that led to the register longer.
 pub record Steps {R F : Type 0} {g : Ghosts R} (c : Call F) (x : Cluster R F g) (r : Answer F) (x' : Cluster R F g) : Type 0 where
