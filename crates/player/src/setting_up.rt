@@ -38,7 +38,7 @@ pub fn found<F: FigureKind>(
         Err(unfounded) => match unfounded.cause {
             UnfoundedCause::Memory(e) => Err(e),
             // these rooms are within the limits of every draft
-            UnfoundedCause::Rooms => unreachable!(),
+            UnfoundedCause::Refused(_) => unreachable!(),
         },
     }
 }

@@ -11,7 +11,6 @@ use Rattle.tables.specs.declared.numbers.Numbers.{Numbers}
 use Rattle.register.specs.declared.service.Draft.{Draft}
 use Rattle.register.specs.declared.service.Register.{Register}
 use Rattle.tables.specs.View.{Tables, view, Fitting, Kept}
-use Rattle.register.specs.Histories.{Grown}
 use Rattle.register.specs.Calls.{meaning}
 use Rattle.register.specs.Commissioning.{new_numbers, Filled}
 use Rattle.register.specs.Service.{drafted, rooms_fit, allowed, Opened, InService}
@@ -53,19 +52,18 @@ module _ {R F : Type 0} {g : Ghosts R} (d : Draft R F g) where
         let ks = filled.marks ∙ ap (λ (n : ℕ). replicate n new_mark) fits.marks in
         rw (rs, ds, ks)
 
-    begins : Grown (drafted d) d.start [] first t
-    begins = record {
-      fits = fits;
-      grows = subst (λ (s : State F). Grows (drafted d) d.start [] s) (sym state) (begun _ _ _);
-    }
+    begins : Grows (drafted d) d.start [] (view d.start first t)
+    begins = subst (λ (s : State F). Grows (drafted d) d.start [] s) (sym state) (begun _ _ _)
 
     pub in_service : (x : Register R F g) → Opened d (length t.messages) (length t.journal) x → InService d x t
     in_service x o =
-        let b : Grown (meaning x) x.start [] x.numbers t = rw (o.rule, o.start, o.numbers) begins in
+        let f : Fitting x.numbers t = rw o.numbers fits in
+        let b : Grows (meaning x) x.start [] (view x.start x.numbers t) = rw (o.rule, o.start, o.numbers) begins in
         record {
           opened = o;
           same_meaning = ap (rule_of g) o.rule;
           state = rw (o.start, o.numbers) state;
+          fits = f;
           begins = b;
-          serves = λ cs rs x' t' ran. (runs x t cs rs x' t' ran).extends [] b;
+          serves = λ cs rs x' t' ran. let r = runs x t cs rs x' t' ran in (r.fits f, r.extends f [] b);
         }

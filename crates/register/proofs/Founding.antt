@@ -77,7 +77,7 @@ module _ {R F : Type 0} {g : Ghosts R} (d : Draft R F g) (message_room journal_r
       let least = d.some_replica in
       let some_room : 1 ≤ message_room = grind (arith, nat_tests) in
       record {
-        fits = service.begins.fits;
+        fits = service.fits;
         queue_fits = omega (arith, room_is, m.head, m.queue);
         queue_slack = omega (arith, room_is, m.queue, some_room);
         sound =

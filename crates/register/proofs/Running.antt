@@ -1,5 +1,5 @@
 -- A list of calls extends each history by its own.
-use Rattle.std.proofs.Common.{◌≡◌, ℕ, ◌+◌, ◌<◌, ◌≤◌, List, [], ◌∷◌, ◌++◌, length, get_or, take, sym, refl, ap, ◌∙◌, subst, ap₂, append_assoc, append-nil}
+use Rattle.std.proofs.Common.{◌≡◌, ℕ, ◌+◌, ◌<◌, ◌≤◌, List, [], ◌∷◌, ◌++◌, length, get_or, take, sym, refl, ap, ◌∙◌, subst, ap₂}
 use Rattle.std.proofs.lemmas.List.{map-append, take_more, take_all}
 use Rattle.quorum.specs.Sets.{Rule}
 use Rattle.quorum.specs.Meaning.{rule_of}
@@ -9,15 +9,22 @@ use Rattle.model.specs.Answers.{Answer}
 use Rattle.model.specs.State.{State}
 use Rattle.model.specs.Steps.{Outcome, step}
 use Rattle.model.specs.History.{History, Event, Grows, Run, event, run, replies}
+use Rattle.model.proofs.Runs.{runs_grow}
 use Rattle.model.proofs.Serving.{serves}
 use Rattle.register.specs.declared.service.Register.{Register}
-use Rattle.tables.specs.View.{Tables, view}
-use Rattle.register.specs.Histories.{Grown, Carries}
+use Rattle.register.specs.declared.service.cluster.Cluster.{Cluster}
+use Rattle.tables.specs.View.{Tables, view, Fitting}
+use Rattle.register.specs.Histories.{Carries}
 use Rattle.register.specs.Calls.{answered, Plays, meaning}
-use Rattle.register.specs.Runs.{Ran, begun, then, history, Runs}
+use Rattle.register.specs.Clusters.{cluster_rule, cluster_state, Steps, ClusterRan}
+use Rattle.register.specs.Runs.{Trace, begun, then, Extends, Ran, Runs}
 use Rattle.register.proofs.Calling.{answered_fitting}
 
--- one call more
+-- A call is the model's step on this state.
+record Stepped {F : Type 0} (rule : Rule) (c : Call F) (s : State F) (r : Answer F) (s' : State F) : Type 0 where
+  answer : r ≡ (step rule s c).reply
+  next : s' ≡ (step rule s c).next
+
 module _ {F : Type 0} (rule : Rule) where
   abbrev one_more : Run F → Call F → Run F
   one_more p c = record {
@@ -32,75 +39,109 @@ module _ {F : Type 0} (rule : Rule) where
       ap (λ (p : Run F). record { history = event d (step rule s d) ∷ p.history; state = p.state })
       (run_more (step rule s d).next cs c)
 
+-- Where each call is a step, and leaves what makes the next one a step too.
+module _ {F S : Type 0} (One : Call F → S → Answer F → S → Type 0) (rule : Rule) (state : S → State F) (Apt : S → Type 0)
+    (one : (c : Call F) (x : S) (r : Answer F) (x' : S) → One c x r x' → Apt x → Apt x' × Stepped rule c (state x) r (state x')) where
+  -- What a list of calls leaves.
+  record Led (x : S) (cs : List (Call F)) (rs : List (Answer F)) (x' : S) : Type 0 where
+    apt : Apt x'
+    answers : rs ≡ replies (run rule (state x) cs).history
+    next : state x' ≡ (run rule (state x) cs).state
+
+  led : {x : S} → Apt x → {cs : List (Call F)} {rs : List (Answer F)} {x' : S} → Trace One x cs rs x' → Led x cs rs x'
+  unfolding run
+  led apt begun = record { apt = apt; answers = refl; next = refl }
+  led {x} apt (then {cs = cs} {rs = rs} {s' = x'} before c r x'' does) =
+      let p = led apt before in
+      let q : Run F = run rule (state x) cs in
+      let d = one c x' r x'' does p.apt in
+      let e = run_more rule (state x) cs c in
+      record {
+        apt = d.0;
+        answers =
+            ap₂ (λ (a : List (Answer F)) (b : Answer F). a ++ b ∷ []) p.answers
+            (d.1.answer ∙ ap (λ (s : State F). (step rule s c).reply) p.next)
+            ∙ sym (map-append (λ (v : Event F). v.reply) q.history (event c (step rule q.state c) ∷ []))
+            ∙ ap (λ (w : Run F). replies w.history) (sym e);
+        next = d.1.next ∙ ap (λ (s : State F). (step rule s c).next) p.next ∙ ap (λ (w : Run F). w.state) (sym e);
+      }
+
+  extends : {x : S} → Apt x → {cs : List (Call F)} {rs : List (Answer F)} {x' : S} → Trace One x cs rs x'
+      → (start : F) (h : History F) → Grows rule start h (state x)
+      → Apt x' × Extends rule start cs (state x) rs (state x') h
+  extends {x} apt {cs} trace start h before =
+      let l = led apt trace in
+      let g = subst (λ (s : State F). Grows rule start (h ++ (run rule (state x) cs).history) s) (sym l.next)
+      (runs_grow rule start h (state x) before cs) in (
+        l.apt,
+        record { answers = l.answers; grows = g; serves = λ law. serves F rule law start _ _ g },
+      )
+
+-- OVER LENT TABLES
+
 module _ {R F : Type 0} {g : Ghosts R} (x : Register R F g) (t : Tables F) where
   abbrev rule : Rule
   rule = meaning x
 
-  -- What a run leaves, seen from a history that led to the register.
-  record Led (cs : List (Call F)) (rs : List (Answer F)) (x' : Register R F g) (t' : Tables F) (h : History F) : Type 0 where
-    same_rule : meaning x' ≡ rule
-    same_start : x'.start ≡ x.start
-    state : view x.start x'.numbers t' ≡ (run rule (view x.start x.numbers t) cs).state
-    answers : rs ≡ replies (history rule x.start x.numbers t cs)
-    grown : Grown rule x.start (h ++ history rule x.start x.numbers t cs) x'.numbers t'
+  abbrev state : Register R F g × Tables F → State F
+  state p = view x.start p.0.numbers p.1
 
-  led_more : (h : History F) (cs : List (Call F)) (rs : List (Answer F)) (x' : Register R F g) (t' : Tables F) → Led cs rs x' t' h
-      → (c : Call F) (r : Answer F) (x'' : Register R F g) (t'' : Tables F) → Plays c x' t' r x'' t''
-      → Led (cs ++ c ∷ []) (rs ++ r ∷ []) x'' t'' h
-  led_more h cs rs x' t' p c r x'' t'' plays =
-      let q : Run F = run rule (view x.start x.numbers t) cs in
+  record Lent (p : Register R F g × Tables F) : Type 0 where
+    same_rule : meaning p.0 ≡ rule
+    same_start : p.0.start ≡ x.start
+    fits : Fitting p.0.numbers p.1
+
+  plays : (c : Call F) (p : Register R F g × Tables F) (r : Answer F) (q : Register R F g × Tables F)
+      → Plays c p.0 p.1 r q.0 q.1 → Lent p → Lent q × Stepped rule c (state p) r (state q)
+  plays c p r q does lent =
       let Carried : Rule → F → Type 0
-      = λ l f. Carries l f c (answered l f x'.numbers t' c) x'.numbers t' r x''.numbers t'' in
+      = λ l f. Carries l f c (answered l f p.0.numbers p.1 c) p.0.numbers p.1 r q.0.numbers q.1 in
       let k : Carried rule x.start
-      = subst (λ (l : Rule). Carried l x.start) p.same_rule (subst (λ (f : F). Carried (meaning x') f) p.same_start plays.carries) in
-      let o : answered rule x.start x'.numbers t' c ≡ step rule q.state c
-      = answered_fitting rule x.start x'.numbers t' p.grown.fits c
-      ∙ ap (λ (s : State F). step rule s c) p.state in
-      let e = run_more rule (view x.start x.numbers t) cs c in
+      = subst (λ (l : Rule). Carried l x.start) lent.same_rule
+      (subst (λ (f : F). Carried (meaning p.0) f) lent.same_start does.carries) in
+      let o = answered_fitting rule x.start p.0.numbers p.1 lent.fits c in (
+        record {
+          same_rule = ap (λ (a : R). rule_of g a) does.rule ∙ lent.same_rule;
+          same_start = does.start ∙ lent.same_start;
+          fits = k.fits lent.fits;
+        },
+        record {
+          answer = k.does.answer ∙ ap (λ (w : Outcome F). w.reply) o;
+          next = k.does.state ∙ ap (λ (w : Outcome F). w.next) o;
+        },
+      )
+
+  pub runs : (cs : List (Call F)) (rs : List (Answer F)) (x' : Register R F g) (t' : Tables F) → Ran x t cs rs x' t'
+      → Runs cs x t rs x' t'
+  runs cs rs x' t' ran =
+      let lent : Fitting x.numbers t → Lent (x, t) = λ fits. record { same_rule = refl; same_start = refl; fits = fits } in
       record {
-        same_rule = ap (λ (a : R). rule_of g a) plays.rule ∙ p.same_rule;
-        same_start = plays.start ∙ p.same_start;
-        state = k.does.state ∙ ap (λ (w : Outcome F). w.next) o ∙ ap (λ (w : Run F). w.state) (sym e);
-        answers =
-            ap₂ (λ (a : List (Answer F)) (b : Answer F). a ++ b ∷ []) p.answers
-            (k.does.answer ∙ ap (λ (w : Outcome F). w.reply) o)
-            ∙ sym (map-append (λ (v : Event F). v.reply) q.history (event c (step rule q.state c) ∷ []))
-            ∙ ap (λ (w : Run F). replies w.history) (sym e);
-        grown = record {
-          fits = k.fits p.grown.fits;
-          grows =
-              subst (λ (l : History F). Grows rule x.start l (view x.start x''.numbers t''))
-              (append_assoc h q.history _
-              ∙ ap (λ (s : State F). h ++ (q.history ++ event c (step rule s c) ∷ [])) p.state
-              ∙ ap (λ (w : Run F). h ++ w.history) (sym e))
-              ((k.lengthens p.grown.fits).grows (h ++ q.history) p.grown.grows);
-        };
+        ran = ran;
+        fits = λ fits. (led _ rule state Lent plays (lent fits) ran).apt.fits;
+        extends = λ fits h before. (extends _ rule state Lent plays (lent fits) ran x.start h before).1;
       }
 
-  led : (h : History F) → Grown rule x.start h x.numbers t → {cs : List (Call F)} {rs : List (Answer F)}
-      {x' : Register R F g} {t' : Tables F} → Ran x t cs rs x' t' → Led cs rs x' t' h
-  unfolding run
-  led h grown begun = record {
-    same_rule = refl;
-    same_start = refl;
-    state = refl;
-    answers = refl;
-    grown = subst (λ (k : History F). Grown rule x.start k x.numbers t) (sym (append-nil h)) grown;
-  }
-  led h grown (then {cs = cs} {rs = rs} {x' = x'} {t' = t'} ran c r x'' t'' plays) = led_more h cs rs x' t' (led h grown ran) c r x'' t'' plays
+-- OVER TABLES OF ITS OWN
 
-pub runs : {R F : Type 0} {g : Ghosts R} (x : Register R F g) (t : Tables F) (cs : List (Call F)) (rs : List (Answer F))
-    (x' : Register R F g) (t' : Tables F) → Ran x t cs rs x' t' → Runs cs x t rs x' t'
-runs {R} {F} x t cs rs x' t' ran = record {
-  ran = ran;
-  extends = λ h grown.
-      let l = led x t h grown ran in
-      record {
-        answers = l.answers;
-        grown = l.grown;
-        serves = λ law. serves F (meaning x) law x.start _ _ l.grown.grows;
-      };
-}
+module _ {R F : Type 0} {g : Ghosts R} (x : Cluster R F g) where
+  abbrev SameRule : Cluster R F g → Type 0
+  SameRule y = cluster_rule y ≡ cluster_rule x
+
+  steps : (c : Call F) (y : Cluster R F g) (r : Answer F) (z : Cluster R F g) → Steps c y r z → SameRule y
+      → SameRule z × Stepped (cluster_rule x) c (cluster_state y) r (cluster_state z)
+  steps c y r z does same = (
+    does.rule ∙ same,
+    record {
+      answer = does.answer ∙ ap (λ (l : Rule). (step l (cluster_state y) c).reply) same;
+      next = does.state ∙ ap (λ (l : Rule). (step l (cluster_state y) c).next) same;
+    },
+  )
+
+  pub cluster_runs : (cs : List (Call F)) (rs : List (Answer F)) (x' : Cluster R F g) → ClusterRan x cs rs x'
+      → (h : History F) → Grows (cluster_rule x) x.register.start h (cluster_state x)
+      → Extends (cluster_rule x) x.register.start cs (cluster_state x) rs (cluster_state x') h
+  cluster_runs cs rs x' ran h before =
+      (extends Steps (cluster_rule x) cluster_state SameRule steps refl ran x.register.start h before).1
 
 -- The turns of a loop over the calls.
 module _ {R F : Type 0} {g : Ghosts R} {x : Register R F g} {t : Tables F} {rs : List (Answer F)} where
@@ -115,7 +156,7 @@ module _ {R F : Type 0} {g : Ghosts R} {x : Register R F g} {t : Tables F} {rs :
         let more : take (i + 1) calls ≡ take i calls ++ c ∷ []
         = take_more calls i c low ∙ ap (λ (d : Call F). take i calls ++ d ∷ []) (sym is) in
         subst (λ (k : List (Answer F)). Ran x t (take (i + 1) calls) k x'' t'') (sym e)
-        (subst (λ (k : List (Call F)). Ran x t k (rs ++ r ∷ []) x'' t'') (sym more) (then ran c r x'' t'' plays))
+        (subst (λ (k : List (Call F)). Ran x t k (rs ++ r ∷ []) x'' t'') (sym more) (then ran c r (x'', t'') plays))
 
     pub ran_all : Ran x t (take i calls) rs x' t' → length calls ≤ i → Runs calls x t rs x' t'
     ran_all ran all =

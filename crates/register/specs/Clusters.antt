@@ -1,14 +1,13 @@
 -- A register with its tables, as one state of the model, and what a call on it carries.
-use Rattle.std.specs.Prelude.{◌≡◌, ℕ, ◌*◌, Bool, true, false, [], replicate, Ok, Err, vec_items, vec_len, Result}
+use Rattle.std.specs.Prelude.{◌≡◌, ℕ, ◌*◌, true, false, List, [], replicate, Ok, Err, vec_items, vec_len, Result}
 use Rattle.quorum.specs.Sets.{Rule}
-use Rattle.quorum.specs.Laws.{Lawful}
 use Rattle.quorum.specs.declared.system.QuorumSystem.{Ghosts}
 use Rattle.model.specs.declared.calls.Call.{Call}
 use Rattle.model.specs.Answers.{Answer}
+use Rattle.model.specs.declared.answers.Refusal.{Refusal}
 use Rattle.model.specs.State.{State, fresh, new_replica, new_reader, new_mark}
 use Rattle.model.specs.Steps.{step}
 use Rattle.model.specs.History.{Grows}
-use Rattle.model.specs.Claims.{Served}
 use Rattle.register.specs.declared.service.Draft.{Draft}
 use Rattle.register.specs.declared.service.cluster.OwnedTables.{OwnedTables}
 use Rattle.register.specs.declared.service.cluster.Cluster.{Cluster}
@@ -18,6 +17,7 @@ use Rattle.tables.specs.View.{Tables, view}
 use Rattle.register.specs.Owned.{owned}
 use Rattle.register.specs.Histories.{Lengthens}
 use Rattle.register.specs.Calls.{meaning}
+use Rattle.register.specs.Runs.{Trace, Extends}
 use Rattle.register.specs.Service.{drafted, rooms_fit}
 
 abbrev pub cluster_tables : {R F : Type 0} {g : Ghosts R} → Cluster R F g → Tables F
@@ -39,28 +39,6 @@ pub record Made {R F : Type 0} {g : Ghosts R} (d : Draft R F g) (message_room jo
   pub head : o.head ≡ 0
   pub journal : vec_len o.journal ≡ journal_room
 
--- A newly founded cluster of a draft, with so much room. The empty history led there, and under a lawful rule it is served.
-pub record NewCluster {R F : Type 0} {g : Ghosts R} (d : Draft R F g) (message_room journal_room : ℕ) (x : Cluster R F g)
-    : Type 0 where
-  pub rule : cluster_rule x ≡ drafted d
-  pub start : x.register.start ≡ d.start
-  pub state : cluster_state x ≡ fresh (drafted d) d.start d.readers message_room journal_room
-  pub begins : Grows (cluster_rule x) x.register.start [] (cluster_state x)
-  pub serves : Lawful (cluster_rule x) → Served (cluster_rule x) x.register.start [] (cluster_state x)
-
--- Whether the rooms were within their limits where a draft was not founded.
-abbrev pub within_limits : UnfoundedCause → Bool
-within_limits UnfoundedCause.Rooms = false
-within_limits (UnfoundedCause.Memory e) = true
-
--- What founding comes to: a new cluster, or the draft as it was, with the cause.
-abbrev pub Founded : {R F : Type 0} {g : Ghosts R} → Draft R F g → ℕ → ℕ → Result (Cluster R F g) (Unfounded R F g)
-    → Type 0
-Founded d message_room journal_room (Ok x) =
-    (rooms_fit d message_room journal_room ≡ true) × NewCluster d message_room journal_room x
-Founded d message_room journal_room (Err u) =
-    (rooms_fit d message_room journal_room ≡ within_limits u.cause) × (u.draft ≡ d)
-
 -- A call is the model's step: its answer, and what it leaves. It makes each history that led to the register longer.
 pub record Steps {R F : Type 0} {g : Ghosts R} (c : Call F) (x : Cluster R F g) (r : Answer F) (x' : Cluster R F g) : Type 0 where
   pub rule : cluster_rule x' ≡ cluster_rule x
@@ -68,3 +46,34 @@ pub record Steps {R F : Type 0} {g : Ghosts R} (c : Call F) (x : Cluster R F g) 
   pub answer : r ≡ (step (cluster_rule x) (cluster_state x) c).reply
   pub state : cluster_state x' ≡ (step (cluster_rule x) (cluster_state x) c).next
   pub lengthens : Lengthens (cluster_rule x) x.register.start c (cluster_state x) (cluster_state x')
+
+-- A list of calls, one after the other.
+abbrev pub ClusterRan : {R F : Type 0} {g : Ghosts R} → Cluster R F g → List (Call F) → List (Answer F) → Cluster R F g
+    → Type 0
+ClusterRan x cs rs x' = Trace Steps x cs rs x'
+
+-- A newly founded cluster of a draft, with so much room. Whatever is called from here on, each call on what the one before left:
+-- the answers are those of one history, and under a lawful rule that history is served.
+pub record NewCluster {R F : Type 0} {g : Ghosts R} (d : Draft R F g) (message_room journal_room : ℕ) (x : Cluster R F g)
+    : Type 0 where
+  pub rule : cluster_rule x ≡ drafted d
+  pub start : x.register.start ≡ d.start
+  pub state : cluster_state x ≡ fresh (drafted d) d.start d.readers message_room journal_room
+  pub begins : Grows (cluster_rule x) x.register.start [] (cluster_state x)
+  pub serves : (cs : List (Call F)) (rs : List (Answer F)) (x' : Cluster R F g) → ClusterRan x cs rs x'
+      → Extends (cluster_rule x) x.register.start cs (cluster_state x) rs (cluster_state x') []
+
+-- What keeps a draft from being founded: rooms outside their limits, which is the refusal of a table's length, or within them
+-- want of memory.
+abbrev pub Hinders : {R F : Type 0} {g : Ghosts R} → Draft R F g → ℕ → ℕ → UnfoundedCause → Type 0
+Hinders d message_room journal_room (UnfoundedCause.Refused e) =
+    (rooms_fit d message_room journal_room ≡ false) × (e ≡ Refusal.TableLength)
+Hinders d message_room journal_room (UnfoundedCause.Memory e) = rooms_fit d message_room journal_room ≡ true
+
+-- What founding comes to: a new cluster, or the draft as it was, with the cause.
+abbrev pub Founded : {R F : Type 0} {g : Ghosts R} → Draft R F g → ℕ → ℕ → Result (Cluster R F g) (Unfounded R F g)
+    → Type 0
+Founded d message_room journal_room (Ok x) =
+    (rooms_fit d message_room journal_room ≡ true) × NewCluster d message_room journal_room x
+Founded d message_room journal_room (Err u) =
+    Hinders d message_room journal_room u.cause × (u.draft ≡ d)

@@ -12,11 +12,6 @@ use Rattle.tables.specs.declared.numbers.Numbers.{Numbers}
 use Rattle.tables.specs.View.{Tables, view, Fitting}
 use Rattle.steps.specs.Doing.{Does}
 
--- The events led from a newly commissioned register to this one, and its tables have the lengths that they had then.
-pub record Grown {F : Type 0} (rule : Rule) (start : F) (h : History F) (n : Numbers) (t : Tables F) : Type 0 where
-  pub fits : Fitting n t
-  pub grows : Grows rule start h (view start n t)
-
 -- Each history that led to the state s becomes longer by the event of the call, and leads to s'. Under a lawful rule the
 -- longer one is served.
 pub record Lengthens {F : Type 0} (rule : Rule) (start : F) (c : Call F) (s s' : State F) : Type 0 where

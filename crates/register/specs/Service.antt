@@ -5,14 +5,14 @@ use Rattle.quorum.specs.Meaning.{rule_of}
 use Rattle.quorum.specs.declared.system.QuorumSystem.{Ghosts}
 use Rattle.model.specs.declared.answers.Refusal.{Refusal}
 use Rattle.model.specs.State.{fresh}
+use Rattle.model.specs.History.{Grows}
 use Rattle.model.specs.declared.calls.Call.{Call}
 use Rattle.model.specs.Answers.{Answer}
 use Rattle.register.specs.declared.tally.Tally.{Tally}
 use Rattle.register.specs.declared.service.Draft.{Draft}
 use Rattle.register.specs.declared.service.Uncommissioned.{Uncommissioned}
 use Rattle.register.specs.declared.service.Register.{Register}
-use Rattle.tables.specs.View.{Tables, view}
-use Rattle.register.specs.Histories.{Grown}
+use Rattle.tables.specs.View.{Tables, view, Fitting}
 use Rattle.register.specs.Calls.{meaning}
 use Rattle.register.specs.Runs.{Ran, Extends}
 use Rattle.register.specs.Commissioning.{new_numbers, parties_fit}
@@ -48,9 +48,11 @@ pub record InService {R F : Type 0} {g : Ghosts R} (d : Draft R F g) (x : Regist
   pub same_meaning : meaning x ≡ drafted d
   pub state : view x.start x.numbers t
       ≡ fresh (drafted d) d.start d.readers (length t.messages) (length t.journal)
-  pub begins : Grown (meaning x) x.start [] x.numbers t
+  pub fits : Fitting x.numbers t
+  pub begins : Grows (meaning x) x.start [] (view x.start x.numbers t)
   pub serves : (cs : List (Call F)) (rs : List (Answer F)) (x' : Register R F g) (t' : Tables F) → Ran x t cs rs x' t'
-      → Extends (meaning x) x.start cs x.numbers t rs x'.numbers t' []
+      → Fitting x'.numbers t'
+      × Extends (meaning x) x.start cs (view x.start x.numbers t) rs (view x.start x'.numbers t') []
 
 -- The draft came back as it was, with the refusal, and no table is altered.
 pub record SentBack {R F : Type 0} {g : Ghosts R} (d : Draft R F g) (t : Tables F) (u : Uncommissioned R F g) (t' : Tables F) : Type 0 where

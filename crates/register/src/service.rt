@@ -18,7 +18,7 @@ pub struct Draft<R: QuorumSystem, F> {
 }
 
 /// A draft whose commissioning was declined, and why.
-// Not one type with `Unfounded`: this carries the answer of a call, a refusal with its number, and that may carry want of memory.
+// Not one type with `Unfounded`: that may also carry want of memory.
 #[derive(Drop)]
 pub struct Uncommissioned<R: QuorumSystem, F> {
     pub draft: Draft<R, F>,

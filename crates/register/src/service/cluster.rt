@@ -5,7 +5,7 @@ ghost use Rattle.tables.specs.View.{view, Fitting};
 ghost use Rattle.register.specs.Owned.{owned};
 
 use super::{Draft, Register};
-use model::{Message, Operation, Reader, RelayMark, Replica};
+use model::{Message, Operation, Reader, Refusal, RelayMark, Replica};
 use quorum::QuorumSystem;
 use std::alloc::AllocError;
 
@@ -40,11 +40,10 @@ pub struct Unfounded<R: QuorumSystem, F> {
 }
 
 /// Why a draft was not put into service over tables of its own.
-// Named, and no `Option` of the error: that the rooms are outside their limits is a cause of its own.
 #[derive(Debug, Drop)]
 pub enum UnfoundedCause {
-    /// A room is outside its limits.
-    Rooms,
+    /// A room is outside its limits: no table may have that length.
+    Refused(Refusal),
     /// There is no memory for the tables.
     Memory(AllocError),
 }

@@ -4,7 +4,7 @@ ghost use Rattle.register.specs.Clusters.{Made, Founded};
 
 use super::{Cluster, OwnedTables, Unfounded, UnfoundedCause};
 use crate::service::Draft;
-use model::{Message, Operation, Reader, RelayMark, Replica};
+use model::{Message, Operation, Reader, Refusal, RelayMark, Replica};
 use quorum::QuorumSystem;
 use std::alloc::{AllocError, Global};
 
@@ -22,7 +22,7 @@ impl<R: QuorumSystem, F: Copy> Draft<R, F> {
         if !self.rooms_fit(message_room, journal_room) {
             return Err(Unfounded {
                 draft: self,
-                cause: UnfoundedCause::Rooms,
+                cause: UnfoundedCause::Refused(Refusal::TableLength),
             });
         }
         match self.new_tables(heap, message_room, journal_room) {

@@ -1,6 +1,6 @@
 use Rattle.std.proofs.Common.{sym, []}
-use Rattle.model.proofs.Serving.{serves}
 use Rattle.register.proofs.Founding.{service, state_is, new_cluster}
+use Rattle.register.proofs.Running.{cluster_runs}
 use Rattle.register.proofs.service.Draft.found.Goals as goal
 
 pub invariant_of-result : goal.invariant_of-result
@@ -16,7 +16,7 @@ returns-in-Ok g c =
         rule = s.same_meaning;
         start = s.opened.start;
         state = state_is c.args.self _ _ fit c.in-Ok.tables c.in-Ok.ensures c.open.result c.open.ensures;
-        begins = s.begins.grows;
-        serves = λ law. serves _ _ law _ [] _ s.begins.grows;
+        begins = s.begins;
+        serves = λ cs rs x' ran. cluster_runs _ cs rs x' ran [] s.begins;
       },
     )
