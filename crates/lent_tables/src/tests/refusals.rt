@@ -21,6 +21,21 @@ const HALT_READER: Call<u32> = Call::Halt(Party::Reader(0));
 
 const HALT_REPLICA: Call<u32> = Call::Halt(Party::Replica(0));
 
+// Reader 0 has heard of replica 0.
+const HEARS: [Call<u32>; 3] = [QUICK, Call::Deliver(0), Call::Deliver(2)];
+
+// Reader 0 has finished a read, and one message waits.
+const READS: [Call<u32>; 5] = [
+    QUICK,
+    Call::Deliver(0),
+    Call::Deliver(0),
+    Call::Deliver(1),
+    Call::Deliver(1),
+];
+
+// Reader 0 has heard of replica 0, and is halted.
+const HEARS_HALTS: [Call<u32>; 4] = [QUICK, Call::Deliver(0), Call::Deliver(2), HALT_READER];
+
 // A call that is declined after some others, on tables with room for so many messages and lines. The first message may have another
 // stamp by then.
 #[derive(Clone, Copy)]
@@ -177,12 +192,7 @@ fn each_refusal_is_given(rt: HostRuntime) -> Result<(), Fail> {
                 WRITE,
                 Refusal::Halted,
             ),
-            roomy(
-                "the reader is halted",
-                &[HALT_READER],
-                QUICK,
-                Refusal::Halted,
-            ),
+            roomy("the reader is halted", &HEARS_HALTS, QUICK, Refusal::Halted),
             roomy(
                 "writer halted twice",
                 &[HALT_WRITER],
@@ -191,7 +201,7 @@ fn each_refusal_is_given(rt: HostRuntime) -> Result<(), Fail> {
             ),
             roomy(
                 "reader halted twice",
-                &[HALT_READER],
+                &HEARS_HALTS,
                 HALT_READER,
                 Refusal::Halted,
             ),
@@ -202,11 +212,11 @@ fn each_refusal_is_given(rt: HostRuntime) -> Result<(), Fail> {
                 Refusal::Halted,
             ),
             roomy("the writer writes", &[WRITE], WRITE, Refusal::Busy),
-            roomy("the reader reads", &[QUICK], SETTLED, Refusal::Busy),
-            roomy("no line for a read", &[WRITE], QUICK, Refusal::JournalFull).short(),
+            roomy("the reader reads", &HEARS, SETTLED, Refusal::Busy),
+            roomy("no line for a read", &READS, QUICK, Refusal::JournalFull).short(),
             roomy("no line for a write", &[QUICK], WRITE, Refusal::JournalFull).short(),
             roomy("no room to write", &[QUICK], WRITE, Refusal::NoRoom).narrow(),
-            roomy("no room to read", &[WRITE], QUICK, Refusal::NoRoom).narrow(),
+            roomy("no room to read", &READS, QUICK, Refusal::NoRoom).narrow(),
             roomy(
                 "no room for a copy",
                 &[WRITE],
