@@ -1,4 +1,7 @@
--- What a message does that is delivered to a party at work. In all of these, s is the state without the message.
+-- What a message does that is delivered to a party at work. In all of these, s is the state without the message. They are right
+-- only for a message that waited in sound tables: then its parties exist and are of the kinds that its own kind wants, its line
+-- is in the journal and of an operation that it serves, and that line's owner exists (`addressed` and `recorded` in Sound). None
+-- of this is tested again.
 use Rattle.std.specs.Prelude.{ℕ, zero, suc, pred, ◌+◌, Bool, true, false, cond, not, ◌&&◌, List, [], ◌∷◌, ◌++◌, length, ◌==◌, nat_lt, slice_set}
 use Rattle.quorum.specs.Sets.{Rule, bits, joined}
 use Rattle.model.specs.declared.parties.Party.{Party}
@@ -36,7 +39,7 @@ to_all (suc c) kind n from x = to_all c kind n from x ++ new_message kind n from
 abbrev pub carried : {F : Type 0} → Message F → Held F
 carried m = record { stamp = m.stamp; figure = m.figure }
 
--- The answer of m's receiver to the owner of the operation.
+-- The answer of m's receiver to the owner of the operation, whose line is there by soundness.
 abbrev pub answer : {F : Type 0} → State F → Message F → MessageKind → Held F → Message F
 answer s m kind x = new_message kind m.operation m.receiver (line s m.operation).owner x
 
@@ -46,7 +49,8 @@ answer s m kind x = new_message kind m.operation m.receiver (line s m.operation)
 abbrev pub finish_event : {F : Type 0} → State F → ℕ
 finish_event s = length s.journal + one_more s.finished
 
--- Operation n finishes with x after so many exchanges.
+-- Operation n finishes with x after so many exchanges. Its line is there: a message's by soundness, and a reader's own is that
+-- of the message that counted.
 abbrev pub with_finish : {F : Type 0} → State F → ℕ → Held F → ℕ → State F
 with_finish s n x exchanges =
     with_journal s (slice_set s.journal (pred n) (ended (line s n) (finish_event s) x exchanges)) (one_more s.finished)
@@ -58,7 +62,7 @@ finishing s n x exchanges = record {
   next = with_finish s n x exchanges;
 }
 
--- TO A REPLICA
+-- TO A REPLICA. By soundness m's receiver is a replica that exists, so the receiver's index is a replica's number.
 
 -- PUT and BACK: the replica takes what is offered and acknowledges it.
 unfoldable pub on_offer : {F : Type 0} → State F → Message F → MessageKind → Effect F
@@ -76,7 +80,8 @@ on_fan rule s m =
     sending s (to_all rule.size MessageKind.Relay m.operation m.receiver (held s (index m.receiver)))
 
 -- RELAY: the replica takes what is relayed, and once a round set has relayed to it for a read, it replies, once, with
--- what it holds. In these, replica c holds x, and k is the mark that it keeps for reader r.
+-- what it holds. In these, replica c holds x, and k is the mark that it keeps for reader r. By soundness the sender is a replica,
+-- and the owner of the line of a relay a reader that exists: so r is its number, and the mark is there.
 
 abbrev pub after_relay : {F : Type 0} → Rule → State F → Message F → ℕ → Held F → ℕ → RelayMark → Effect F
 after_relay rule s m c x r k =
@@ -97,7 +102,7 @@ on_relay rule s m =
     on_relay_to rule s m (index m.receiver) (took (held s (index m.receiver)) (carried m))
     (index (line s m.operation).owner)
 
--- TO THE WRITER
+-- TO THE WRITER. By soundness m's sender is a replica that exists, and its line a write.
 
 -- PUT-ACK: a write finishes with the stamp and the figure of its line.
 
@@ -112,7 +117,7 @@ on_put_ack rule s m =
     m.operation (written s m.operation) 2)
     (quiet (with_writer s (acknowledged s.writer (index m.sender)))))
 
--- TO A READER
+-- TO A READER. By soundness m's receiver is a reader that exists, and its sender a replica that does.
 
 -- A reply counts for the reader's current operation, in the phase that it is meant for, once for each sender.
 

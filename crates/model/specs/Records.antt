@@ -1,4 +1,5 @@
--- What becomes of single records as the register works.
+-- What becomes of single records as the register works. Nothing is tested here: that c is the number of a replica, and that a
+-- reply counts, is known where these are used.
 use Rattle.std.specs.Prelude.{ℕ, ◌+◌, min, true, false, cond, ◌||◌, ◌==◌, nat_lt}
 use Rattle.quorum.specs.Sets.{joined}
 use Rattle.model.specs.declared.reader.Phase.{Phase}

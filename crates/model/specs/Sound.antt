@@ -110,6 +110,7 @@ owned s (OperationKind.Read k) p = a_reader s p
 abbrev pub recorded : {F : Type 0} → State F → MessageKind → Operation F → Bool
 recorded s kind o = serves kind o.kind && owned s o.kind o.owner
 
+-- It looks the lines up with no test that they are there: right only beside `messages_addressed`, which says so.
 unfoldable pub messages_recorded : {F : Type 0} → State F → Bool
 messages_recorded s = list_all (λ m. recorded s m.kind (line s m.operation)) s.messages
 

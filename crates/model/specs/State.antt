@@ -46,7 +46,8 @@ without [] n = []
 without (x ∷ xs) zero = xs
 without (x ∷ xs) (suc n) = x ∷ without xs n
 
--- The number of a party among its kind.
+-- The number of a party among its kind, 0 for the writer. It does not tell the kind: where a number is taken for a reader's or a
+-- replica's, soundness says that the party is one.
 abbrev pub index : Party → ℕ
 index Party.Writer = 0
 index (Party.Reader r) = r
@@ -117,7 +118,8 @@ new_line kind owner event x = record {
   sent = 0;
 }
 
--- READING IT. A place past the end of a table reads as a new record.
+-- READING IT. A place past the end of a table reads as a new record: what reads one without a test that it is there is right
+-- only where the tables are sound (Sound), or behind the tests of the call (`tests` in Steps).
 
 abbrev pub no_message : {F : Type 0} → F → Message F
 no_message f = new_message MessageKind.Query 0 Party.Writer Party.Writer (unused f)
@@ -134,10 +136,12 @@ reader s r = slice_index_or s.readers r (new_reader s.start)
 abbrev pub message : {F : Type 0} → State F → ℕ → Message F
 message s place = slice_index_or s.messages place (no_message s.start)
 
--- The line of operation n: they are numbered from 1.
+-- The line of operation n: they are numbered from 1. 0, which is no operation, reads as the first line: whoever looks a line up
+-- tests first that it is in the journal, or knows it by soundness.
 abbrev pub line : {F : Type 0} → State F → ℕ → Operation F
 line s n = slice_index_or s.journal (pred n) (no_line s.start)
 
+-- Right only for a reader that exists: from a higher r it is the place of another replica's mark.
 abbrev pub mark_place : {F : Type 0} → State F → ℕ → ℕ → ℕ
 mark_place s c r = c * length s.readers + r
 

@@ -30,7 +30,8 @@ pub record Outcome (F : Type 0) : Type 0 where
 abbrev pub declined : {F : Type 0} → State F → Refusal → Outcome F
 declined s e = record { reply = Err e; taken = []; sent = []; next = s }
 
--- MESSAGES THAT ARE SENT join the end of those that wait, and each adds one to its operation's count.
+-- MESSAGES THAT ARE SENT join the end of those that wait, and each adds one to its operation's count. The line of that is there:
+-- the step has added it, or it is the line of the message delivered, which is there by soundness.
 
 unfoldable pub counted : {F : Type 0} → F → List (Operation F) → List (Message F) → List (Operation F)
 counted f journal [] = journal
@@ -78,6 +79,7 @@ opening_message ReadKind.Quick = MessageKind.Query
 opening_message ReadKind.Settled = MessageKind.Query
 opening_message ReadKind.Relay = MessageKind.Fan
 
+-- Right only for a reader that exists.
 unfoldable pub read : {F : Type 0} → Rule → State F → ℕ → ReadKind → Effect F
 read rule s r kind = record {
   reply = Reply.Started (next_number s);
@@ -86,6 +88,8 @@ read rule s r kind = record {
       with_reader (with_line s (OperationKind.Read kind) (Party.Reader r) (unused s.start)) r
       (reading s.start (reader s r) (next_number s) (opening_phase kind));
 }
+
+-- These three are right only where a message waits at the place.
 
 unfoldable pub deliver : {F : Type 0} → Rule → State F → ℕ → Effect F
 deliver rule s place = received rule (without_message s place) (message s place)
@@ -101,6 +105,7 @@ duplicated s place = record {
   next = with_messages s (s.messages ++ message s place ∷ []);
 }
 
+-- Right only for a party that exists: for any other nothing changes.
 abbrev pub stopped : {F : Type 0} → State F → Party → State F
 stopped s Party.Writer = with_writer s (writer_halted s.writer)
 stopped s (Party.Reader r) = with_reader s r (reader_halted (reader s r))
@@ -109,7 +114,7 @@ stopped s (Party.Replica c) = with_replicas s (slice_set s.replicas c (replica_h
 unfoldable pub halt : {F : Type 0} → State F → Party → Outcome F
 halt s p = record { reply = Ok Reply.Done; taken = []; sent = []; next = stopped s p }
 
--- What a call does that is not declined.
+-- What a call does that is not declined: so the tables are sound, and its party exists or its message waits.
 unfoldable pub done : {F : Type 0} → Rule → State F → Call F → Outcome F
 done rule s (Call.Write f) = outcome [] (write rule s f)
 done rule s (Call.Read r kind) = outcome [] (read rule s r kind)
@@ -118,7 +123,8 @@ done rule s (Call.Drop place) = dropped s place
 done rule s (Call.Duplicate place) = duplicated s place
 done rule s (Call.Halt p) = halt s p
 
--- WHY A CALL IS DECLINED before its step is tried: the first of its tests that holds.
+-- WHY A CALL IS DECLINED before its step is tried: the first of its tests that holds. A test that reads a record stands behind the
+-- one that it is there.
 
 abbrev pub absent : {F : Type 0} → Rule → State F → Party → Bool
 absent rule s Party.Writer = false

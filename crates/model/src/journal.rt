@@ -28,7 +28,9 @@ pub struct Operation<F> {
     pub owner: Party,
     pub started: u32,
     pub finished: u32,
+    /// 2, 3 or 4 once it has finished, as in `Reply`.
     pub exchanges: u8,
+    /// The number of the write that it makes or has shown, or 0 for the start.
     pub stamp: u32,
     pub figure: F,
     /// How many messages were sent for it, up to 65,535.

@@ -3,6 +3,7 @@
 #[derive(Clone, Copy, Default)]
 pub struct RelayMark {
     pub operation: u16,
+    /// A mask: bit k stands for replica k.
     pub relayers: u32,
     pub replied: bool,
 }

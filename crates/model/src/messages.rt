@@ -27,9 +27,11 @@ pub enum MessageKind {
 #[derive(Clone, Copy)]
 pub struct Message<F> {
     pub kind: MessageKind,
+    /// The number of its line in the journal, from 1.
     pub operation: u16,
     pub sender: Party,
     pub receiver: Party,
+    /// The number of the write whose figure it carries, or 0 for the start.
     pub stamp: u32,
     pub figure: F,
 }

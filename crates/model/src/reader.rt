@@ -21,9 +21,12 @@ pub struct Reader<F> {
     pub halted: bool,
     pub operation: u16,
     pub phase: Phase,
+    /// A mask: bit k stands for replica k.
     pub replies: u32,
+    /// The number of the write that it found, or 0 for the start.
     pub best_stamp: u32,
     pub best_figure: F,
+    /// A mask: bit k stands for replica k.
     pub holders: u32,
 }
 

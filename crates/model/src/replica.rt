@@ -4,6 +4,7 @@ ghost use Rattle.model.specs.State.{new_replica};
 /// A replica: the highest stamp that it was offered, with its figure.
 #[derive(Clone, Copy)]
 pub struct Replica<F> {
+    /// The number of the write that it holds, or 0 for the start.
     pub stamp: u32,
     pub figure: F,
     pub halted: bool,

@@ -3,7 +3,9 @@
 #[derive(Clone, Copy, Default)]
 pub struct Writer {
     pub halted: bool,
+    /// How many writes have started: 0 before the first.
     pub last: u32,
     pub operation: u16,
+    /// A mask: bit k stands for replica k.
     pub acknowledgers: u32,
 }

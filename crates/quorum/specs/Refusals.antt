@@ -2,7 +2,7 @@
 use Rattle.std.specs.Prelude.{ℕ, ◌*◌, ◌≤◌, Bool, cond, ◌&&◌, Some, None, Option, nat_le, nat_lt}
 use Rattle.quorum.specs.declared.refusal.RuleRefusal.{RuleRefusal}
 
--- The number under which a refusal is reported.
+-- The number under which a refusal is reported: 1 of every making and of a draft, 2 of a count alone.
 abbrev pub number : RuleRefusal → ℕ
 number RuleRefusal.OutOfLimits = 1
 number RuleRefusal.TooManyFaults = 2

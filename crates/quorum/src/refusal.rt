@@ -1,17 +1,18 @@
 ghost use Rattle.std.specs.Prelude.{◌≡◌};
 ghost use Rattle.quorum.specs.Refusals.{number as number_of};
 
-/// Why a rule is not made.
+/// Why a rule, or the draft of a register, is not made, with the number under which that is reported, 1 or 2.
 #[derive(Clone, Copy, PartialEq, Eq, Debug)]
 pub enum RuleRefusal {
-    /// A number is outside its limits, there are over 24 replicas, or the lead is not one of them.
+    /// There are not 1 to 24 replicas, rows, columns, groups or places are none, the lead is not one of the replicas, or a draft
+    /// has not 1 to 32 readers.
     OutOfLimits = 1,
-    /// Half of the replicas or more are to be allowed to fail.
+    /// Half of a count's replicas or more are to be allowed to fail.
     TooManyFaults = 2,
 }
 
 impl RuleRefusal {
-    /// The number under which the refusal is reported.
+    /// The number under which the refusal is reported, 1 or 2.
     pub fn number(self) -> u8
         ensures { result ≡ number_of self }
     {

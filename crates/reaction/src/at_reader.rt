@@ -100,13 +100,14 @@ fn moved<F: Copy>(place: u32, mut reader: Reader<F>, next: Move) -> Reaction<F>
 pub fn to_reader<R: QuorumSystem, F: Copy>(
     rule: &R,
     place: u32,
-    mut reader: Reader<F>,
+    reader: &Reader<F>,
     kind: OperationKind,
     message: &Message<F>,
 ) -> Reaction<F>
     requires { index_of message.now.sender < 32 }
-    ensures { result ≡ to_reader (R.QuorumSystem.round rule.now) (R.QuorumSystem.hold rule.now) place reader kind message.now }
+    ensures { result ≡ to_reader (R.QuorumSystem.round rule.now) (R.QuorumSystem.hold rule.now) place reader.now kind message.now }
 {
+    let mut reader = *reader;
     if reader.halted || !hear(&mut reader, message, message.sender.index()) {
         return Reaction::nothing();
     }

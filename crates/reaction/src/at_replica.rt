@@ -9,17 +9,17 @@ use quorum::{QuorumSystem, joined};
 
 /// The replica after it was offered what the message carries: it takes that only if the stamp is above its own.
 #[tactic(auto, unfolding(model::specs::Stamps::rank))]
-pub fn offered<F: Copy>(replica: Replica<F>, message: &Message<F>) -> Replica<F>
-    ensures { result ≡ after_offer replica message.now }
+pub fn offered<F: Copy>(replica: &Replica<F>, message: &Message<F>) -> Replica<F>
+    ensures { result ≡ after_offer replica.now message.now }
 {
     if message.stamp > replica.stamp {
         Replica {
             stamp: message.stamp,
             figure: message.figure,
-            ..replica
+            ..*replica
         }
     } else {
-        replica
+        *replica
     }
 }
 
@@ -86,7 +86,7 @@ pub fn to_replica<R: QuorumSystem, F: Copy>(
     rule: &R,
     start: F,
     c: u32,
-    replica: Replica<F>,
+    replica: &Replica<F>,
     owner: Party,
     width: u32,
     marks: &[RelayMark],
@@ -95,7 +95,7 @@ pub fn to_replica<R: QuorumSystem, F: Copy>(
     requires sender { index_of message.now.sender < 32 }
     requires place { c * width + index_of owner < length marks.now }
     requires few { length marks.now ≤ 768 }
-    ensures { result ≡ to_replica (R.QuorumSystem.round rule.now) start c replica owner width marks.now message.now }
+    ensures { result ≡ to_replica (R.QuorumSystem.round rule.now) start c replica.now owner width marks.now message.now }
 {
     if replica.halted {
         return Reaction::nothing();

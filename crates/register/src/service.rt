@@ -5,7 +5,8 @@ use model::Refusal;
 use quorum::QuorumSystem;
 use tables::Numbers;
 
-/// A register that is not in service yet: its rule, how many readers it will have, and the figure that it starts with.
+/// A register that is not in service yet: its rule, of 1 to 24 replicas, how many readers it will have, 1 to 32, and the figure
+/// that it starts with.
 #[derive(Drop)]
 pub struct Draft<R: QuorumSystem, F> {
     rule: R,
@@ -17,7 +18,7 @@ pub struct Draft<R: QuorumSystem, F> {
     ghost few_readers: { readers ≤ 32 },
 }
 
-/// A draft whose commissioning was declined, and why.
+/// A draft whose commissioning was declined, as it was, and why: always with `TableLength` (3).
 // Not one type with `Unfounded`: that may also carry want of memory.
 #[derive(Drop)]
 pub struct Uncommissioned<R: QuorumSystem, F> {
@@ -25,7 +26,11 @@ pub struct Uncommissioned<R: QuorumSystem, F> {
     pub refusal: Refusal,
 }
 
-/// A register in service.
+/// A register in service, over five tables that the caller lends to each call.
+///
+/// Each call says what it answers, and its refusals in the order of their tests. A declined call alters neither the register nor a
+/// table. Places of the messages and the journal that are not in use keep what they held, whatever is called. Replicas, readers
+/// and places count from 0, operations from 1.
 #[derive(Drop)]
 pub struct Register<R: QuorumSystem, F> {
     rule: R,

@@ -10,27 +10,30 @@ use quorum::RuleRefusal;
 /// Why a line is neither a header nor a call. Fields count from 0 at the line's first.
 #[derive(Clone, Copy, PartialEq, Eq, Debug)]
 pub enum TextFault {
-    /// The line is too long, or has a byte that no text has.
+    /// 12: the line is too long, or has a byte that no text has.
     NotText,
-    /// The field is none of the words that may stand there.
+    /// 13: the field is none of the words that may stand there. It is 0 to 3: in the first line `plant`, the kind (1) or the
+    /// rule (3), in a call line the letter, the party (1) or the way of a read (2).
     UnknownWord { field: u8 },
-    /// The line has too few or too many fields.
+    /// 14: the line has too few or too many fields.
     FieldCount,
-    /// The field is no number.
+    /// 15: the field is not 1 to 6 digits. In the first line it is 2, the readers, or 4 to 7, the rule's numbers, in a call line
+    /// 1, a place or a reader to read, or 2, a party to halt.
     BadNumber { field: u8 },
-    /// The fields of a figure are at fault.
+    /// 13 or 15: the fields of a figure are at fault. Here they count from 1.
     Figure(FigureFault),
 }
 
-/// Why a line of a script is declined, with its cause whole.
+/// Why a line of a script is declined, with its cause whole: by which layer, and with which numbers.
 #[derive(Clone, Copy, PartialEq, Eq, Debug)]
 pub enum ScriptFault {
+    /// Layer `text`, 12 to 15, or `figure`, 13 or 15: the line is neither a header nor a call.
     Text(TextFault),
-    /// The rule, or the draft of a register, is refused.
+    /// Layer `rule`, 1 or 2: the rule, or the draft of a register, is refused.
     Rule(RuleRefusal),
-    /// The register declines the call.
+    /// Layer `plant`, 3 to 11: the register declines the call.
     Plant(Refusal),
-    /// The print buffer is too short.
+    /// Layer `print`, 16: the print buffer is shorter than 80 bytes.
     Print,
 }
 
@@ -67,7 +70,7 @@ impl From<Refusal> for ScriptFault {
 }
 
 impl TextFault {
-    /// The number by which the fault is known.
+    /// The number by which the fault is known, 12 to 15.
     // A match: the variants carry what they are of, so they have no numbers of their own.
     pub fn number(self) -> u8
         ensures { result ≡ (text_report self).number }
@@ -81,7 +84,7 @@ impl TextFault {
         }
     }
 
-    /// The field found wrong, or 0 where the fault names none. A figure's first field is field 1 of its line.
+    /// The field found wrong, 0 to 7, or 0 where the fault names none. A figure's first field is field 1 of its line.
     // A plain number, 0 where the fault names none, since the line's format prints 0 there.
     pub fn field(self) -> u32
         ensures { result ≡ (text_report self).field }
@@ -109,7 +112,7 @@ impl ScriptFault {
         }
     }
 
-    /// The number by which the fault is known.
+    /// The number by which the fault is known, 1 to 16.
     // A match: the variants carry what they are of, so they have no numbers of their own.
     pub fn number(self) -> u8
         ensures { result ≡ (report self).number }
@@ -122,7 +125,7 @@ impl ScriptFault {
         }
     }
 
-    /// The field found wrong, or 0 where the fault names none.
+    /// The field found wrong, 0 to 7, or 0 where the fault names none.
     // As above: the line's format prints 0 where the fault names none.
     pub fn field(self) -> u32
         ensures { result ≡ (report self).field }

@@ -67,7 +67,7 @@ pub fn plan_delivery<R: QuorumSystem, F: Copy>(
         (tables replicas.now readers.now marks.now messages.now journal.now) place result }
 {
     let at = place_of(numbers, place)?;
-    let message = messages[at];
+    let message = &messages[at];
     if message.stamp > numbers.writer.last {
         return Err(Refusal::StampAhead);
     }

@@ -14,10 +14,11 @@ use steps::{
 };
 use tables::tables_sound;
 
-// Each call first tests the tables, their lengths and then whether they are sound, and then its own refusals in their order
-// (docs/PROTOCOL.md). A declined call alters nothing.
 impl<R: QuorumSystem, F: Copy> Register<R, F> {
-    /// Writes the figure: the writer sends it to every replica.
+    /// Starts a write of the figure, under the next stamp: the writer sends both to every replica.
+    ///
+    /// Answers `Started` with the operation's number, 1 to 4,096. Refusals, in this order: `TableLength`, `Unsound`, `Halted`, `Busy`,
+    /// `JournalFull`, `NoRoom` for a message to each replica.
     pub fn write(
         &mut self,
         replicas: &[Replica<F>],
@@ -37,6 +38,9 @@ impl<R: QuorumSystem, F: Copy> Register<R, F> {
     }
 
     /// Starts a read of this kind by a reader, which asks every replica.
+    ///
+    /// Answers `Started` with the operation's number, 1 to 4,096. Refusals, in this order: `TableLength`, `Unsound`, `NoSuchParty`,
+    /// `Halted`, `Busy`, `JournalFull`, `NoRoom` for a message to each replica.
     pub fn read(
         &mut self,
         replicas: &[Replica<F>],
@@ -64,7 +68,10 @@ impl<R: QuorumSystem, F: Copy> Register<R, F> {
         )
     }
 
-    /// Delivers the message at a place among the waiting ones.
+    /// Delivers the message at a place among the waiting ones: it is taken out, and has its effect unless its receiver is halted.
+    ///
+    /// Answers `Finished` where that finishes an operation, and else `Done`. Refusals, in this order: `TableLength`, `Unsound`,
+    /// `NoMessage`, `StampAhead`, `NoRoom` for what is sent, the place of the message taken out counted as free.
     pub fn deliver(
         &mut self,
         replicas: &mut [Replica<F>],
@@ -93,7 +100,9 @@ impl<R: QuorumSystem, F: Copy> Register<R, F> {
         )
     }
 
-    /// Loses the message at a place.
+    /// Loses the message at a place among the waiting ones.
+    ///
+    /// Answers `Done`. Refusals, in this order: `TableLength`, `Unsound`, `NoMessage`.
     pub fn drop(
         &mut self,
         replicas: &[Replica<F>],
@@ -112,7 +121,9 @@ impl<R: QuorumSystem, F: Copy> Register<R, F> {
         drop_message(&mut self.numbers, messages, place)
     }
 
-    /// Adds a copy of the message at a place.
+    /// Adds a copy of the message at a place behind the waiting ones. The copy is not counted as sent.
+    ///
+    /// Answers `Done`. Refusals, in this order: `TableLength`, `Unsound`, `NoMessage`, `NoRoom` for the copy.
     pub fn duplicate(
         &mut self,
         replicas: &[Replica<F>],
@@ -132,6 +143,8 @@ impl<R: QuorumSystem, F: Copy> Register<R, F> {
     }
 
     /// Stops a party for good.
+    ///
+    /// Answers `Done`. Refusals, in this order: `TableLength`, `Unsound`, `NoSuchParty`, `Halted`.
     pub fn halt(
         &mut self,
         replicas: &mut [Replica<F>],
@@ -150,7 +163,7 @@ impl<R: QuorumSystem, F: Copy> Register<R, F> {
         halt_party(&mut self.numbers, replicas, readers, party)
     }
 
-    /// Does any of the six calls.
+    /// Does any of the six calls: the answer, the refusals and what is left are as with the call itself.
     pub fn call(
         &mut self,
         replicas: &mut [Replica<F>],

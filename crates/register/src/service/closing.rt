@@ -6,7 +6,7 @@ use crate::tally::Tally;
 use quorum::QuorumSystem;
 
 impl<R: QuorumSystem + Drop, F: Copy> Register<R, F> {
-    /// Uses the register up, and returns its three numbers. It needs no table.
+    /// Uses the register up, and returns its three numbers. It needs no table, alters none, and is never refused.
     pub fn close(self) -> Tally
         ensures { result ≡ closed self }
     {

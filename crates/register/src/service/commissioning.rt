@@ -9,8 +9,13 @@ use quorum::QuorumSystem;
 use tables::Numbers;
 
 impl<R: QuorumSystem, F: Copy> Draft<R, F> {
-    /// Fills the tables and puts the register into service, or gives the draft back where a table has not the length that
-    /// it needs. The messages and the journal may hold anything, and keep it.
+    /// Fills the tables and puts the register into service.
+    ///
+    /// For a rule of S replicas and a draft of so many readers the lengths are: replicas S, readers that many, marks S times that,
+    /// messages S to 4,096, journal 1 to 4,096. Then everybody works, replicas and readers have the starting figure with stamp 0, and
+    /// all sets are empty. The messages and the journal may hold anything, and keep it: none of it waits or is in use.
+    ///
+    /// Where a table has another length, the draft comes back with `TableLength` (3), and no table is altered.
     pub fn commission(
         self,
         replicas: &mut [Replica<F>],

@@ -7,6 +7,8 @@ use quorum::{QuorumSystem, RuleRefusal};
 
 impl<R: QuorumSystem + Drop, F: Copy> Draft<R, F> {
     /// A draft of a register with this rule, for so many readers, that starts with this figure.
+    ///
+    /// Refused with `OutOfLimits` (1), and the rule is used up, unless the rule has 1 to 24 replicas and there are 1 to 32 readers.
     pub fn new(rule: R, readers: u32, start: F) -> Result<Draft<R, F>, RuleRefusal>
         ensures declines { result_err result ≡ draft_refusal (R.QuorumSystem.size rule) readers }
         ensures makes { IfOk result (λ d. (d.rule ≡ rule) × (d.readers ≡ readers) × (d.start ≡ start)) }

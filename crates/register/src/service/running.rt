@@ -8,7 +8,9 @@ use quorum::QuorumSystem;
 use std::alloc::{AllocError, Global};
 
 impl<R: QuorumSystem, F: Copy> Register<R, F> {
-    /// Does the calls one after the other, and gives their answers. For want of memory none is done.
+    /// Does the calls one after the other, each as `call` does it, and gives their answers in the same order.
+    ///
+    /// A declined call alters nothing, and the next ones are done. For want of memory none is done, and nothing is altered.
     pub fn run(
         &mut self,
         heap: Global,

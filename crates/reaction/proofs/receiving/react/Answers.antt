@@ -35,18 +35,18 @@ to_replica-requires g c =
 pub returns-in-Writer : goal.returns-in-Writer
 returns-in-Writer g c =
     let its = c.line_of-line.ensures _ (no_line c.args.start) (line_there c.requires refl).1 in
-    for_writer _ _ c.args.message _ _ its c.in-Writer.is c.to_writer.ensures
+    for_writer _ _ c.args.message.now _ _ its c.in-Writer.is c.to_writer.ensures
 
 pub returns-in-Reader : goal.returns-in-Reader
 returns-in-Reader g c =
     let its = c.line_of-line.ensures _ (no_line c.args.start) (line_there c.requires refl).1 in
-    for_reader _ _ c.args.message _ _ its _ c.in-Reader.is _
+    for_reader _ _ c.args.message.now _ _ its _ c.in-Reader.is _
     (get_or_read _ _ _ (reader_there c.requires refl _ c.in-Reader.is) c.index-readers-r.is (new_reader c.args.start))
     c.to_reader.ensures
 
 pub returns-in-Replica : goal.returns-in-Replica
 returns-in-Replica g c =
     let its = c.line_of-line.ensures _ (no_line c.args.start) (line_there c.requires refl).1 in
-    for_replica _ _ c.args.message _ _ its _ c.in-Replica.is _
+    for_replica _ _ c.args.message.now _ _ its _ c.in-Replica.is _
     (get_or_read _ _ _ (replica_there c.requires refl _ c.in-Replica.is) c.index-replicas-c.is
     (new_replica c.args.start)) _ (sym c.requires.readers) c.to_replica.ensures
