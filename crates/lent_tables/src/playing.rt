@@ -19,7 +19,7 @@ const MESSAGE_ROOM: usize = 1024;
 const JOURNAL_ROOM: usize = 256;
 
 /// Plays a script, and writes the answers as it goes. One whose first line is declined is no script to play.
-pub fn play<W: Write>(heap: Global, script: &[u8], to: &mut W) -> anyhow::Result<()> {
+pub(crate) fn play<W: Write>(heap: Global, script: &[u8], to: &mut W) -> anyhow::Result<()> {
     let mut lines = LineCursor::over(script);
     let Some(first) = lines.next() else {
         return Ok(());

@@ -26,7 +26,11 @@ pub struct Tables<F> {
 
 impl<F: Copy> Tables<F> {
     /// Tables of these lengths, with nothing in them yet.
-    pub fn blank(heap: Global, lengths: Lengths, figure: F) -> Result<Tables<F>, AllocError> {
+    pub(crate) fn blank(
+        heap: Global,
+        lengths: Lengths,
+        figure: F,
+    ) -> Result<Tables<F>, AllocError> {
         let size = lengths.replicas as usize;
         let width = lengths.readers as usize;
         Ok(Tables {
@@ -55,7 +59,7 @@ pub struct Service<R: QuorumSystem, F> {
 
 impl<R: QuorumSystem + Drop, F: Copy> Service<R, F> {
     /// Commissions the draft over the tables. None where these have other lengths than it needs.
-    pub fn over(draft: Draft<R, F>, mut tables: Tables<F>) -> Option<Service<R, F>> {
+    pub(crate) fn over(draft: Draft<R, F>, mut tables: Tables<F>) -> Option<Service<R, F>> {
         let register = draft
             .commission(
                 &mut tables.replicas,
@@ -69,7 +73,7 @@ impl<R: QuorumSystem + Drop, F: Copy> Service<R, F> {
     }
 
     /// Does any of the six calls.
-    pub fn call(&mut self, call: Call<F>) -> Result<Reply<F>, Refusal> {
+    pub(crate) fn call(&mut self, call: Call<F>) -> Result<Reply<F>, Refusal> {
         let Service { register, tables } = self;
         register.call(
             &mut tables.replicas,

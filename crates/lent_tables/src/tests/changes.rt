@@ -37,7 +37,7 @@ pub enum Change {
 
 impl Tables<u32> {
     /// Makes a change, and gives the one that takes it back. None, and nothing is changed, where there is no such place, or no memory.
-    pub fn change(&mut self, change: Change) -> Option<Change> {
+    pub(super) fn change(&mut self, change: Change) -> Option<Change> {
         match change {
             Change::Longer(record) => self.longer(record),
             Change::Shorter(like) => self.shorter(like),

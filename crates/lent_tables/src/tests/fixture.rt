@@ -51,12 +51,16 @@ pub const BUSY: [Call<u32>; 15] = [
 ];
 
 /// The draft of a register.
-pub fn draft() -> Result<Draft<Count, u32>, Fail> {
+pub(super) fn draft() -> Result<Draft<Count, u32>, Fail> {
     Ok(Draft::new(Count::new(3, 1)?, 4, START)?)
 }
 
 /// A register in service with room for so many messages and lines. Its tables were full of marked records before.
-pub fn new_service(heap: Global, messages: usize, journal: usize) -> Result<TestService, Fail> {
+pub(super) fn new_service(
+    heap: Global,
+    messages: usize,
+    journal: usize,
+) -> Result<TestService, Fail> {
     let lengths = Lengths {
         messages,
         journal,
@@ -67,7 +71,7 @@ pub fn new_service(heap: Global, messages: usize, journal: usize) -> Result<Test
 }
 
 /// Does the calls, of which none is declined.
-pub fn play(service: &mut TestService, calls: &[Call<u32>]) -> Result<(), Refusal> {
+pub(super) fn play(service: &mut TestService, calls: &[Call<u32>]) -> Result<(), Refusal> {
     for call in calls {
         service.call(*call)?;
     }
@@ -75,7 +79,7 @@ pub fn play(service: &mut TestService, calls: &[Call<u32>]) -> Result<(), Refusa
 }
 
 /// A busy register.
-pub fn busy_service(heap: Global) -> Result<TestService, Fail> {
+pub(super) fn busy_service(heap: Global) -> Result<TestService, Fail> {
     let mut service = new_service(heap, LENGTHS.messages, LENGTHS.journal)?;
     play(&mut service, &BUSY)?;
     Ok(service)
@@ -104,7 +108,7 @@ const MARKED_MARK: RelayMark = RelayMark {
 };
 
 /// Tables of these lengths in which no record could be a register's, and no message or line is like another.
-pub fn marked_tables(heap: Global, lengths: Lengths) -> Result<Tables<u32>, AllocError> {
+pub(super) fn marked_tables(heap: Global, lengths: Lengths) -> Result<Tables<u32>, AllocError> {
     let mut tables = Tables::blank(heap, lengths, START)?;
     tables.replicas.fill(MARKED_REPLICA);
     tables.readers.fill(MARKED_READER);
@@ -119,7 +123,7 @@ pub fn marked_tables(heap: Global, lengths: Lengths) -> Result<Tables<u32>, Allo
 }
 
 /// A marked record for each of the tables.
-pub fn marked_records() -> [Record; 5] {
+pub(super) fn marked_records() -> [Record; 5] {
     [
         Record::Replica(MARKED_REPLICA),
         Record::Reader(MARKED_READER),
@@ -154,7 +158,7 @@ fn marked_line(number: u16) -> Operation<u32> {
 }
 
 /// Does a call through the method of its own.
-pub fn by_method(service: &mut TestService, call: Call<u32>) -> Result<Reply<u32>, Refusal> {
+pub(super) fn by_method(service: &mut TestService, call: Call<u32>) -> Result<Reply<u32>, Refusal> {
     let Service { register, tables } = service;
     match call {
         Call::Write(figure) => register.write(
@@ -210,7 +214,7 @@ pub fn by_method(service: &mut TestService, call: Call<u32>) -> Result<Reply<u32
 }
 
 /// Demands that a call is declined with this refusal, through its own method and through `call`, and alters no table.
-pub fn assert_declined(
+pub(super) fn assert_declined(
     rt: &(impl Abort + Alloc<A = Global>),
     service: &mut TestService,
     call: Call<u32>,
@@ -228,7 +232,7 @@ pub fn assert_declined(
 
 /// Demands that two registers answer a call the same, the one through the call's own method, the other through `call`, and leave the
 /// same tables. Gives the answer.
-pub fn assert_same_step(
+pub(super) fn assert_same_step(
     rt: &(impl Abort + Alloc<A = Global>),
     one: &mut TestService,
     other: &mut TestService,
@@ -243,7 +247,7 @@ pub fn assert_same_step(
 
 /// Demands that two registers go on in the same way, and with the same numbers at the end: 40 deliveries, another write and read, and
 /// 40 deliveries more.
-pub fn assert_same_end(
+pub(super) fn assert_same_end(
     rt: &(impl Abort + Alloc<A = Global>),
     mut one: TestService,
     mut other: TestService,

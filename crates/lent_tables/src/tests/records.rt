@@ -25,7 +25,7 @@ pub enum Answer {
 }
 
 /// The answer of a call.
-pub fn answer_of(outcome: Result<Reply<u32>, Refusal>) -> Answer {
+pub(super) fn answer_of(outcome: Result<Reply<u32>, Refusal>) -> Answer {
     match outcome {
         Ok(Reply::Started(operation)) => Answer::Started(operation),
         Ok(
@@ -49,7 +49,7 @@ pub fn answer_of(outcome: Result<Reply<u32>, Refusal>) -> Answer {
 }
 
 /// The rows of all tables.
-pub fn rows_of(heap: Global, tables: &Tables<u32>) -> Result<Vec<Row>, AllocError> {
+pub(super) fn rows_of(heap: Global, tables: &Tables<u32>) -> Result<Vec<Row>, AllocError> {
     let mut rows = Vec::new(heap);
     for replica in tables.replicas.iter() {
         rows.push(replica_row(replica))?;
@@ -94,7 +94,7 @@ fn mark_row(mark: &RelayMark) -> Row {
     [operation, mark.relayers, replied, 0, 0, 0, 0, 0, 0]
 }
 
-pub fn message_row(message: &Message<u32>) -> Row {
+pub(super) fn message_row(message: &Message<u32>) -> Row {
     let (sender, sender_index) = party_numbers(message.sender);
     let (receiver, receiver_index) = party_numbers(message.receiver);
     [
@@ -110,7 +110,7 @@ pub fn message_row(message: &Message<u32>) -> Row {
     ]
 }
 
-pub fn line_row(line: &Operation<u32>) -> Row {
+pub(super) fn line_row(line: &Operation<u32>) -> Row {
     let (owner, owner_index) = party_numbers(line.owner);
     [
         kind_number(line.kind),

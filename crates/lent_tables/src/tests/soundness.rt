@@ -19,7 +19,10 @@ pub struct Case {
 
 /// Demands of each case, in a busy register, that the calls are declined so and alter no table, and that after all of them the
 /// register goes on as if none had been.
-pub fn assert_cases(rt: &(impl Abort + Alloc<A = Global>), cases: &[Case]) -> Result<(), Fail> {
+pub(super) fn assert_cases(
+    rt: &(impl Abort + Alloc<A = Global>),
+    cases: &[Case],
+) -> Result<(), Fail> {
     let mut service = busy_service(rt.alloc())?;
     for case in cases {
         assert_case(rt, &mut service, case)?;
