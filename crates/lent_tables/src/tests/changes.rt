@@ -31,7 +31,10 @@ pub enum Change {
     Reader(usize, Phase, u16),
     Replies(usize, u32),
     Holders(usize, u32),
+    /// The stamp of the best that a reader found.
+    Best(usize, u32),
     Relayers(usize, u32),
+    /// A replica's stamp.
     Replica(usize, u32),
 }
 
@@ -75,6 +78,10 @@ impl Tables<u32> {
             Change::Holders(place, set) => {
                 let holders = &mut self.readers.get_mut(place)?.holders;
                 Some(Change::Holders(place, mem::replace(holders, set)))
+            }
+            Change::Best(place, number) => {
+                let stamp = &mut self.readers.get_mut(place)?.best_stamp;
+                Some(Change::Best(place, mem::replace(stamp, number)))
             }
             Change::Relayers(place, set) => {
                 let relayers = &mut self.marks.get_mut(place)?.relayers;

@@ -387,6 +387,7 @@ fn a_set_names_replicas_and_nothing_else_is_judged(rt: HostRuntime) -> Result<()
         ] {
             cases.push(one("a set", change, sound))?;
         }
+        cases.push(one("a reader's best", Change::Best(0, set), true))?;
         cases.push(one("a replica's stamp", Change::Replica(2, set), true))?;
         cases.push(one("a message's stamp", Change::Stamp(4, set), true))?;
         cases.push(one("a message in no use", Change::Operation(16, 0), true))?;
