@@ -16,13 +16,14 @@ use Rattle.model.specs.Stamps.{Stamp, rank, no_stamp}
 use Rattle.model.specs.State.{State, Held, new_replica, fresh, unused}
 use Rattle.model.specs.History.{Event, History}
 use Rattle.model.specs.Claims.{At, In, Finishes, Finished, Writes, Numbered, AsWritten, Row, working, Finishing, Uncopied, of_operation, sent_for, limit, Limits}
-use Rattle.model.specs.Refuted.{value, write_starts, read_starts, finishes, first, second, number_given_twice, read_ends_twice, two_at_once, write_ends}
+use Rattle.model.specs.Refuted.{value, write_starts, read_starts, finishes, first, second, number_given_twice, read_ends_twice, two_at_once, two_writes_at_once, write_ends}
 use Rattle.model.specs.Refuted.{read_after_write, stalled, overspent, overspent_beside_a_copy, after_start, after_write, after_both, ReadWithin, Refutable}
 use Rattle.model.proofs.Ranks.{rank_next}
 use Rattle.model.proofs.Slate.{shows_after, Tells, write_tells, read_tells, finish_tells, written, writes_from, ended}
 use Rattle.model.proofs.Slate.{finish_at, write_at, read_at}
 use Rattle.model.proofs.FallenBack.{only_newest}
 use Rattle.model.proofs.Ahead.{never_ahead}
+use Rattle.model.proofs.LastWritten.{only_last}
 use Rattle.model.proofs.Stranded.{not_stranded}
 
 -- NUMBERS
@@ -48,6 +49,19 @@ none_finishes : (n : ℕ) → Finished two_at_once n → ⊥
 none_finishes n (zero, x, (e, place, sent, exchanges, at, call, reply)) = cc
 none_finishes n (suc zero, x, (e, place, sent, exchanges, at, call, reply)) = cc
 none_finishes n (suc (suc m), x, (e, place, sent, exchanges, at, call, reply)) = absurd at
+
+no_write_finishes : (n : ℕ) → Finished two_writes_at_once n → ⊥
+no_write_finishes n (zero, x, (e, place, sent, exchanges, at, call, reply)) = cc
+no_write_finishes n (suc zero, x, (e, place, sent, exchanges, at, call, reply)) = cc
+no_write_finishes n (suc (suc m), x, (e, place, sent, exchanges, at, call, reply)) = absurd at
+
+writes_not_overlapping : (s : State ℕ) → Numbered two_writes_at_once s → ⊥
+writes_not_overlapping s n =
+    omega (
+      arith,
+      n.one_unfinished 0 1 1 2 Party.Writer _ _
+          (write_at two_writes_at_once 1 0 10 [] refl) (write_at two_writes_at_once 2 1 20 [] refl) (no_write_finishes 1) (no_write_finishes 2),
+    )
 
 not_overlapping : (s : State ℕ) → Numbered two_at_once s → ⊥
 not_overlapping s n =
@@ -197,9 +211,9 @@ read_within rule kind sent limits =
     limits.bounded 0 1 (Party.Reader 0) (OperationKind.Read kind) (_, refl, refl, refl)
     (one_call _ (λ place c. cc) 1)
 
-not_miscounted : (rule : Rule) → Limits rule stalled (after_write rule 2) → ⊥
+not_miscounted : (rule : Rule) (sent : ℕ) → Limits rule stalled (after_write rule sent) → sent ≡ 1
 unfolding fresh of_operation sent_for
-not_miscounted rule limits = let e = limits.true_counts 1 (omega arith) (omega arith) in omega arith
+not_miscounted rule sent limits = let e = limits.true_counts 1 (omega arith) (omega arith) in omega arith
 
 -- Stamps that follow one another differ.
 rises : (t u : Stamp) → rank t < rank u → t ≡ u → ⊥
@@ -212,12 +226,14 @@ refutable = record {
   repeats = not_repeated;
   unstarted = not_unstarted;
   overlaps = not_overlapping;
+  writes_overlap = writes_not_overlapping;
   mislabels = not_mislabelled;
   miswrites = only_written_finishes;
   falls_back = λ r. rises first second (rank_next first) (only_newest first 10 r).0;
   shows_newest = only_newest;
   forgets = λ r. rises no_stamp first (rank_next no_stamp) (only_written no_stamp 0 r).0;
   shows_written = only_written;
+  shows_last = only_last;
   foresees = never_ahead;
   stalls = not_stalled;
   strands = not_stranded;

@@ -69,6 +69,10 @@ read_ends_twice = read_starts 1 0 ∷ finishes 1 no_stamp 0 ∷ finishes 1 no_st
 abbrev pub two_at_once : History ℕ
 two_at_once = read_starts 1 0 ∷ read_starts 2 0 ∷ []
 
+-- The writer starts write 2 while its write 1 is unfinished.
+abbrev pub two_writes_at_once : History ℕ
+two_writes_at_once = write_starts 1 10 [] ∷ write_starts 2 20 [] ∷ []
+
 -- Write 1 of the figure 10 finishes with this.
 abbrev pub write_ends : Stamp → ℕ → History ℕ
 write_ends t f = write_starts 1 10 (put 1 first 10 ∷ []) ∷ finishes 1 t f ∷ []
@@ -94,6 +98,17 @@ read_after_write t f =
     ∷ finishes 2 t f
     ∷ []
 
+-- Writes 1 and 2 finish. Then read 3 starts, and shows this.
+abbrev pub read_after_two : Stamp → ℕ → History ℕ
+read_after_two t f =
+    write_starts 1 10 (put 1 first 10 ∷ [])
+    ∷ finishes 1 first 10
+    ∷ write_starts 2 20 (put 2 second 20 ∷ [])
+    ∷ finishes 2 second 20
+    ∷ read_starts 3 0
+    ∷ finishes 3 t f
+    ∷ []
+
 -- Read 1 shows write 2, which starts after the read has finished.
 abbrev pub read_ahead : History ℕ
 read_ahead =
@@ -110,22 +125,23 @@ stalled =
     ∷ record { call = Call.Deliver 0; reply = Ok Reply.Done; taken = put 1 first 10 ∷ []; sent = [] }
     ∷ []
 
--- Read 1 starts, and a message of write 2 is dropped.
-abbrev pub stranded : History ℕ
-stranded =
-    read_starts 1 0
-    ∷ write_starts 2 10 (put 2 first 10 ∷ [])
-    ∷ record { call = Call.Drop 0; reply = Ok Reply.Done; taken = put 2 first 10 ∷ []; sent = [] }
+-- A read of this kind, operation 2, starts behind write 1. A message of the write is dropped, and one of the read is copied.
+abbrev pub stranded : ReadKind → History ℕ
+stranded kind =
+    write_starts 1 10 (put 1 first 10 ∷ [])
+    ∷ record { call = Call.Read 0 kind; reply = Ok (Reply.Started 2); taken = []; sent = [] }
+    ∷ record { call = Call.Drop 0; reply = Ok Reply.Done; taken = put 1 first 10 ∷ []; sent = [] }
+    ∷ record { call = Call.Duplicate 0; reply = Ok Reply.Done; taken = query 2 ∷ []; sent = [] }
     ∷ []
 
 abbrev pub three_replicas : Rule
 three_replicas = count_rule 3 1
 
--- Replica 2 is halted, and all that waits is read 1's QUERY to it.
+-- Replica 2 and the writer are halted. Read 2's QUERY waits for that replica, and write 1's PUT for one at work.
 abbrev pub one_left : State ℕ
 one_left =
-    with_messages (stopped (fresh three_replicas 0 1 64 8) (Party.Replica 2))
-    (query 1 ∷ [])
+    with_messages (stopped (stopped (fresh three_replicas 0 1 64 8) (Party.Replica 2)) Party.Writer)
+    (query 2 ∷ put 1 first 10 ∷ [])
 
 -- A write for which one message more is sent than two for each replica.
 abbrev pub overspent : Rule → History ℕ
@@ -196,6 +212,8 @@ pub record Refutable : Type 0 where
   pub unstarted : (s : State ℕ) → Numbered (finishes 1 no_stamp 0 ∷ []) s → ⊥
   -- a reader that starts a second operation while its first is unfinished
   pub overlaps : (s : State ℕ) → Numbered two_at_once s → ⊥
+  -- and the writer that does
+  pub writes_overlap : (s : State ℕ) → Numbered two_writes_at_once s → ⊥
   -- a line of another kind or owner than the operation of its number
   pub mislabels : (rule : Rule) (kind : OperationKind) (owner : Party)
       → Numbered (write_starts 1 10 [] ∷ []) (after_start rule kind owner (value first 10) 0)
@@ -210,12 +228,15 @@ pub record Refutable : Type 0 where
   pub forgets : Row 0 (read_after_write no_stamp 0) → ⊥
   -- and one that shows anything else than that write, such as a figure that nobody wrote
   pub shows_written : (t : Stamp) (f : ℕ) → Row 0 (read_after_write t f) → (t ≡ first) × (f ≡ 10)
+  -- a read that shows anything else than the last of two finished writes
+  pub shows_last : (t : Stamp) (f : ℕ) → Row 0 (read_after_two t f) → (t ≡ second) × (f ≡ 20)
   -- a read that shows a write that has not started yet
   pub foresees : Row 0 read_ahead → ⊥
   -- a write that nothing holds up, and that does not finish
   pub stalls : (rule : Rule) → Lawful rule → Finishing rule stalled (after_write rule 1) → ⊥
-  -- a read that nothing holds up, and that does not finish: one replica is halted, and a message of another operation was dropped
-  pub strands : Finishing three_replicas stranded one_left → ⊥
+  -- a read that nothing holds up, and that does not finish: the writer and one replica are halted, a message of another operation
+  -- was dropped and one waits, and a message of the read was copied
+  pub strands : (kind : ReadKind) → Finishing three_replicas (stranded kind) one_left → ⊥
   -- a write that costs more than two messages for each replica, though no message of it was copied
   pub overspends : (rule : Rule) → Limits rule (overspent rule) (after_write rule (2 * rule.size + 1)) → ⊥
   -- such a write though a message of another operation was copied
@@ -227,7 +248,7 @@ pub record Refutable : Type 0 where
   -- and a relay read that costs more than two for each and one from each to each
   pub relay_overspends : (rule : Rule) → ReadWithin rule ReadKind.Relay (rule.size * rule.size + 2 * rule.size + 1) → ⊥
   -- a count in the journal that is not that of the messages sent
-  pub miscounts : (rule : Rule) → Limits rule stalled (after_write rule 2) → ⊥
+  pub miscounts : (rule : Rule) (sent : ℕ) → Limits rule stalled (after_write rule sent) → sent ≡ 1
   -- a call that is declined for its tables or for a stamp, though no one else wrote into them
   pub finds_unsound : (c : Call ℕ) → Undisturbed (declines c Refusal.Unsound ∷ []) → ⊥
   pub finds_ahead : (c : Call ℕ) → Undisturbed (declines c Refusal.StampAhead ∷ []) → ⊥

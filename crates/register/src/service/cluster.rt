@@ -42,7 +42,7 @@ pub struct Unfounded<R: QuorumSystem, F> {
 /// Why a draft was not put into service over tables of its own.
 #[derive(Debug, Drop)]
 pub enum UnfoundedCause {
-    /// A room is outside its limits: no table may have that length.
+    /// A room is outside its limits: no table may have that length. Always `TableLength` (3).
     Refused(Refusal),
     /// There is no memory for the tables.
     Memory(AllocError),

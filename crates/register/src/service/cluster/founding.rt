@@ -9,8 +9,10 @@ use quorum::QuorumSystem;
 use std::alloc::{AllocError, Global};
 
 impl<R: QuorumSystem, F: Copy> Draft<R, F> {
-    /// Puts the register into service over tables of its own, with room for so many messages and lines. The draft comes
-    /// back where a room is outside its limits, or for want of memory.
+    /// Puts the register into service over tables of its own, with room for so many messages and lines.
+    ///
+    /// For a rule of S replicas the rooms are S to 4,096 messages and 1 to 4,096 lines. With another room the draft comes back with
+    /// `TableLength` (3), and else for want of memory.
     pub fn found(
         self,
         heap: Global,
