@@ -1,4 +1,7 @@
-ghost use Rattle.std.specs.Prelude.{◌≡◌, if◌then◌else◌};
+ghost use Rattle.std.specs.Prelude.{◌≡◌, ◌↔◌, if◌then◌else◌};
+ghost use Rattle.std.specs.IoError.{error_kind};
+ghost use Rattle.std.specs.declared.io.ErrorKind.TheVariants.{BrokenPipe};
+ghost use Rattle.console.specs.declared.ending.Failure.TheVariants.{OutputClosed, Fault as OfFault};
 ghost use Rattle.console.specs.Endings.{ended_well};
 
 use std::alloc::AllocError;
@@ -15,18 +18,24 @@ pub enum Failure {
 }
 
 impl From<anyhow::Error> for Failure {
+    ghost from_gives = { λ e r. r ≡ OfFault e };
+
     fn from(e: anyhow::Error) -> Failure {
         Failure::Fault(e)
     }
 }
 
 impl From<AllocError> for Failure {
+    ghost from_gives = { λ e r. r ≡ OutputClosed → ⊥ };
+
     fn from(e: AllocError) -> Failure {
         Failure::Fault(e.into())
     }
 }
 
 impl From<io::Error> for Failure {
+    ghost from_gives = { λ e r. (r ≡ OutputClosed) ↔ (error_kind e ≡ BrokenPipe) };
+
     fn from(e: io::Error) -> Failure {
         match e.kind() {
             ErrorKind::BrokenPipe => Failure::OutputClosed,
