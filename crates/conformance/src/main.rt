@@ -29,9 +29,19 @@ fn run(rt: &HostRuntime) -> Result<(), Failure> {
     match Request::of(word)? {
         Request::Help => print!(rt; "{USAGE}")?,
         Request::Version => println!(rt; "conformance {VERSION}")?,
-        Request::Work(folder) => compare_pack(rt, folder.unwrap_or("."))?,
+        Request::Work(folder) => return judged(compare_pack(rt, folder.unwrap_or("."))),
     }
     Ok(())
+}
+
+// Success is a verdict here: so a reader that has had enough before it is told is a fault.
+fn judged(outcome: Result<(), Failure>) -> Result<(), Failure> {
+    match outcome {
+        Err(Failure::OutputClosed) => {
+            Err(anyhow!("the output was closed before all scripts were compared").into())
+        }
+        outcome => outcome,
+    }
 }
 
 // Compares the answers to each script of the pack in this folder with the stored ones.

@@ -11,4 +11,5 @@ pub record Asks {E : Type 0} (word : Bor (List ℕ)) (r : Result Request E) : Ty
   pub name : IfOk r (λ q. (q ≡ Request.Help) ⊎ (q ≡ Request.Version) ⊎ (q ≡ Request.Work None) ⊎ (q ≡ Request.Work (Some word)))
   -- only what begins with a dash is refused
   pub refused : IsErr r → slice_get word.now 0 ≡ Some 45
+  -- and of that nothing is worked on
   pub option : slice_get word.now 0 ≡ Some 45 → IfOk r (λ q. q ≡ Request.Work (Some word) → ⊥)

@@ -23,12 +23,12 @@ impl<'a> Request<'a> {
     {
         match word {
             None => Ok(Request::Work(None)),
-            Some(word) => asked(word),
+            Some(word) => request_of(word),
         }
     }
 }
 
-fn asked(word: &str) -> anyhow::Result<Request<'_>>
+fn request_of(word: &str) -> anyhow::Result<Request<'_>>
     ensures { Asks word.entry result }
 {
     match word {

@@ -1,5 +1,6 @@
 -- The claims over a script.
-use Rattle.std.proofs.Common.{◌≡◌, ℕ, ◌+◌, Bool, cond, List, [], ◌∷◌, ◌++◌, length, None, Ok, Err, Result, refl, ap, sym, subst}
+use Rattle.std.proofs.Common.{◌≡◌, ℕ, ◌+◌, Bool, cond, List, [], ◌∷◌, ◌++◌, length, None, Some, Option, Ok, Err, Result, refl, ap, sym, subst}
+use Rattle.std.specs.Option.{IfSome}
 use Rattle.quorum.specs.Sets.{Rule}
 use Rattle.std.proofs.lemmas.Bool.{le-ltb}
 use Rattle.figure.specs.contracts.order.DigOrderFigureKind.TheImpl.{ghosts as order_kind}
@@ -61,10 +62,14 @@ by_lines (first ∷ ls) = λ h e.
     subst (λ (r : Result Header ScriptFault). served_kind h.kind h ls (opened (λ g. by_kind g.kind g ls) r)) (sym e)
     (said_by_kind h.kind h ls (opens first h e))
 
-served_text : (text : List ℕ) → ScriptServed text (played text)
+pub served_text : (text : List ℕ) → ScriptServed text (played text)
 served_text text few =
     subst (λ (b : Bool). served_script (lines text) (cond b (plain_line 0 (Err (ScriptFault.Text TextFault.NotText))) (script_answers (lines text))))
     (sym (le-ltb 65536 (length text) few)) (by_lines (lines text))
+
+pub served_read : (known : Option (List ℕ)) → IfSome known (λ bytes. ScriptServed bytes (played bytes))
+served_read None = tt
+served_read (Some bytes) = served_text bytes
 
 pub script_served : (text : List ℕ) (out : List ℕ) → out ≡ played text → ScriptServed text out
 script_served text out e = subst (λ (o : List ℕ). ScriptServed text o) (sym e) (served_text text)

@@ -25,23 +25,23 @@ printed_front before bytes after end p =
     ap₂ take (p.stop ∙ z) p.all ∙ take-append_seam bytes (drop (0 + length bytes) before)
 
 -- What has been written so far, and all that is to be written in the end.
-pub record Written (start now : Option (List ℕ)) (to_come all : List ℕ) : Type 0 where
+pub record Progress (start now : Option (List ℕ)) (to_come all : List ℕ) : Type 0 where
   pub done : List ℕ
   pub appended : Appends start now done
   pub whole : done ++ to_come ≡ all
 
-pub written_none : (c : Option (List ℕ)) (to_come all : List ℕ) → to_come ≡ all → Written c c to_come all
+pub written_none : (c : Option (List ℕ)) (to_come all : List ℕ) → to_come ≡ all → Progress c c to_come all
 written_none c to_come all e = record { done = []; appended = appends_none c; whole = e }
 
-pub written_more : (a b c : Option (List ℕ)) (piece to_come rest all : List ℕ) → Written a b to_come all
-    → to_come ≡ piece ++ rest → Appends b c piece → Written a c rest all
+pub written_more : (a b c : Option (List ℕ)) (piece to_come rest all : List ℕ) → Progress a b to_come all
+    → to_come ≡ piece ++ rest → Appends b c piece → Progress a c rest all
 written_more a b c piece to_come rest all w e p = record {
   done = w.done ++ piece;
   appended = appends_more a b c w.done piece w.appended p;
   whole = append_assoc w.done piece rest ∙ ap (λ x. w.done ++ x) (sym e) ∙ w.whole;
 }
 
-pub written_all : (a b : Option (List ℕ)) (to_come all : List ℕ) → Written a b to_come all → to_come ≡ [] → Appends a b all
+pub written_all : (a b : Option (List ℕ)) (to_come all : List ℕ) → Progress a b to_come all → to_come ≡ [] → Appends a b all
 written_all a b to_come all w e =
     subst (λ (x : List ℕ). Appends a b x) (sym (append-nil w.done) ∙ ap (λ x. w.done ++ x) (sym e) ∙ w.whole) w.appended
 

@@ -58,6 +58,7 @@ abbrev pub draft_ahead : AnyDraft → List (List ℕ) → List ℕ
 draft_ahead (AnyDraft.Tide d) ls = answers tide_kind (drafted d) (fresh (drafted d) d.start d.readers 1024 256) 2 ls
 draft_ahead (AnyDraft.Order d) ls = answers order_kind (drafted d) (fresh (drafted d) d.start d.readers 1024 256) 2 ls
 
+-- A session is of a draft: it answers what the draft's register does, from line 2 on.
 pub record Founds (d : AnyDraft) (s : Session) : Type 0 where
   pub onward : (ls : List (List ℕ)) → ahead s ls ≡ draft_ahead d ls
   pub number : s.number ≡ 2

@@ -34,13 +34,15 @@ pub fn play(heap: Global, script: &[u8]) -> Result<Vec<u8>, AllocError>
 }
 
 /// Plays the script that there is to read, and writes the answers as it goes.
+#[tactic(auto, using(crate::proofs::Serving::served_read))]
 pub fn play_through<R: Read + Drop, W: Write>(
     heap: Global,
     from: R,
     to: &mut W,
 ) -> Result<(), PlayFault>
-    ensures { OnOk result (IfSome (R.remaining from) (λ bytes.
+    ensures writes { OnOk result (IfSome (R.remaining from) (λ bytes.
         Appends (W.contents to.old) (W.contents to.new) (played bytes))) }
+    ensures serves { IfSome (R.remaining from) (λ bytes. ScriptServed bytes (played bytes)) }
 {
     // one byte more than a script may have: so one that is too long is seen to be
     let script = match read_at_most(heap, from, MOST_BYTES as u64 + 1) {
@@ -53,9 +55,10 @@ pub fn play_through<R: Read + Drop, W: Write>(
 }
 
 /// Plays a script, whatever its bytes are, and writes the answers as it goes.
-#[tactic(auto, using(text::proofs::LineEnds::lines_few))]
+#[tactic(auto, using(text::proofs::LineEnds::lines_few, crate::proofs::Serving::served_text))]
 pub fn play_to<W: Write>(heap: Global, script: &[u8], to: &mut W) -> io::Result<()>
-    ensures { OnOk result (Appends (W.contents to.old) (W.contents to.new) (played script.now)) }
+    ensures writes { OnOk result (Appends (W.contents to.old) (W.contents to.new) (played script.now)) }
+    ensures serves { ScriptServed script.now (played script.now) }
 {
     let mut buffer = [0; MOST_ANSWER_BYTES];
     if script.len() > MOST_BYTES {

@@ -21,7 +21,7 @@ use Rattle.register.specs.Runs.{Trace, begun, then, Extends, Ran, Runs}
 use Rattle.register.proofs.Calling.{answered_fitting}
 
 -- A call is the model's step on this state.
-record Stepped {F : Type 0} (rule : Rule) (c : Call F) (s : State F) (r : Answer F) (s' : State F) : Type 0 where
+record StepsTo {F : Type 0} (rule : Rule) (c : Call F) (s : State F) (r : Answer F) (s' : State F) : Type 0 where
   answer : r ≡ (step rule s c).reply
   next : s' ≡ (step rule s c).next
 
@@ -41,18 +41,18 @@ module _ {F : Type 0} (rule : Rule) where
 
 -- Where each call is a step, and leaves what makes the next one a step too.
 module _ {F S : Type 0} (One : Call F → S → Answer F → S → Type 0) (rule : Rule) (state : S → State F) (Apt : S → Type 0)
-    (one : (c : Call F) (x : S) (r : Answer F) (x' : S) → One c x r x' → Apt x → Apt x' × Stepped rule c (state x) r (state x')) where
+    (one : (c : Call F) (x : S) (r : Answer F) (x' : S) → One c x r x' → Apt x → Apt x' × StepsTo rule c (state x) r (state x')) where
   -- What a list of calls leaves.
-  record Led (x : S) (cs : List (Call F)) (rs : List (Answer F)) (x' : S) : Type 0 where
+  record Leaves (x : S) (cs : List (Call F)) (rs : List (Answer F)) (x' : S) : Type 0 where
     apt : Apt x'
     answers : rs ≡ replies (run rule (state x) cs).history
     next : state x' ≡ (run rule (state x) cs).state
 
-  led : {x : S} → Apt x → {cs : List (Call F)} {rs : List (Answer F)} {x' : S} → Trace One x cs rs x' → Led x cs rs x'
+  follows : {x : S} → Apt x → {cs : List (Call F)} {rs : List (Answer F)} {x' : S} → Trace One x cs rs x' → Leaves x cs rs x'
   unfolding run
-  led apt begun = record { apt = apt; answers = refl; next = refl }
-  led {x} apt (then {cs = cs} {rs = rs} {s' = x'} before c r x'' does) =
-      let p = led apt before in
+  follows apt begun = record { apt = apt; answers = refl; next = refl }
+  follows {x} apt (then {cs = cs} {rs = rs} {s' = x'} before c r x'' does) =
+      let p = follows apt before in
       let q : Run F = run rule (state x) cs in
       let d = one c x' r x'' does p.apt in
       let e = run_more rule (state x) cs c in
@@ -70,7 +70,7 @@ module _ {F S : Type 0} (One : Call F → S → Answer F → S → Type 0) (rule
       → (start : F) (h : History F) → Grows rule start h (state x)
       → Apt x' × Extends rule start cs (state x) rs (state x') h
   extends {x} apt {cs} trace start h before =
-      let l = led apt trace in
+      let l = follows apt trace in
       let g = subst (λ (s : State F). Grows rule start (h ++ (run rule (state x) cs).history) s) (sym l.next)
       (runs_grow rule start h (state x) before cs) in (
         l.apt,
@@ -86,13 +86,13 @@ module _ {R F : Type 0} {g : Ghosts R} (x : Register R F g) (t : Tables F) where
   abbrev state : Register R F g × Tables F → State F
   state p = view x.start p.0.numbers p.1
 
-  record Lent (p : Register R F g × Tables F) : Type 0 where
+  record OnTables (p : Register R F g × Tables F) : Type 0 where
     same_rule : meaning p.0 ≡ rule
     same_start : p.0.start ≡ x.start
     fits : Fitting p.0.numbers p.1
 
   plays : (c : Call F) (p : Register R F g × Tables F) (r : Answer F) (q : Register R F g × Tables F)
-      → Plays c p.0 p.1 r q.0 q.1 → Lent p → Lent q × Stepped rule c (state p) r (state q)
+      → Plays c p.0 p.1 r q.0 q.1 → OnTables p → OnTables q × StepsTo rule c (state p) r (state q)
   plays c p r q does lent =
       let Carried : Rule → F → Type 0
       = λ l f. Carries l f c (answered l f p.0.numbers p.1 c) p.0.numbers p.1 r q.0.numbers q.1 in
@@ -114,11 +114,11 @@ module _ {R F : Type 0} {g : Ghosts R} (x : Register R F g) (t : Tables F) where
   pub runs : (cs : List (Call F)) (rs : List (Answer F)) (x' : Register R F g) (t' : Tables F) → Ran x t cs rs x' t'
       → Runs cs x t rs x' t'
   runs cs rs x' t' ran =
-      let lent : Fitting x.numbers t → Lent (x, t) = λ fits. record { same_rule = refl; same_start = refl; fits = fits } in
+      let lent : Fitting x.numbers t → OnTables (x, t) = λ fits. record { same_rule = refl; same_start = refl; fits = fits } in
       record {
         ran = ran;
-        fits = λ fits. (led _ rule state Lent plays (lent fits) ran).apt.fits;
-        extends = λ fits h before. (extends _ rule state Lent plays (lent fits) ran x.start h before).1;
+        fits = λ fits. (follows _ rule state OnTables plays (lent fits) ran).apt.fits;
+        extends = λ fits h before. (extends _ rule state OnTables plays (lent fits) ran x.start h before).1;
       }
 
 -- OVER TABLES OF ITS OWN
@@ -128,7 +128,7 @@ module _ {R F : Type 0} {g : Ghosts R} (x : Cluster R F g) where
   SameRule y = cluster_rule y ≡ cluster_rule x
 
   steps : (c : Call F) (y : Cluster R F g) (r : Answer F) (z : Cluster R F g) → Steps c y r z → SameRule y
-      → SameRule z × Stepped (cluster_rule x) c (cluster_state y) r (cluster_state z)
+      → SameRule z × StepsTo (cluster_rule x) c (cluster_state y) r (cluster_state z)
   steps c y r z does same = (
     does.rule ∙ same,
     record {

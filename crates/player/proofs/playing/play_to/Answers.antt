@@ -6,8 +6,8 @@ use Rattle.player.proofs.Sessions.{played_lines}
 use Rattle.player.proofs.Writing.{printed_front, both}
 use Rattle.player.proofs.playing.play_to.Goals as goal
 
-pub returns-in-Some-session : goal.returns-in-Some-session
-returns-in-Some-session g c =
+pub returns-in-Some-session-clause-writes : goal.returns-in-Some-session-clause-writes
+returns-in-Some-session-clause-writes g c =
     let ls = lines_ahead c.next.new.self in
     let opening = c.in_ok-opening.opening in
     let o = c.in_ok-opening.ensures in

@@ -6,7 +6,8 @@ use quorum::QuorumSystem;
 use steps::step_queued;
 
 impl<R: QuorumSystem, F: Copy> Cluster<R, F> {
-    /// Does any of the six calls.
+    /// Does any of the six calls, and answers or declines as `Register` does. Its tables are its own, so none is declined with
+    /// `TableLength` (3) or `Unsound` (4). A declined call alters nothing.
     pub fn call(&mut self, call: Call<F>) -> Result<Reply<F>, Refusal>
         ensures { Steps call self.old result self.new }
     {
