@@ -51,7 +51,7 @@ pub record SameLengths {F : Type 0} (t t' : Tables F) : Type 0 where
 pub same_lengths : {F : Type 0} (t : Tables F) → SameLengths t t
 same_lengths t = record { replicas = refl; readers = refl; marks = refl; messages = refl; journal = refl }
 
-fitting_still : {F : Type 0} {n n' : Numbers} {t t' : Tables F} → SameSizes n n' → SameLengths t t' → Fitting n t → Fitting n' t'
+pub fitting_still : {F : Type 0} {n n' : Numbers} {t t' : Tables F} → SameSizes n n' → SameLengths t t' → Fitting n t → Fitting n' t'
 fitting_still {F} {n} {n'} sizes lengths f = record {
   replicas = lengths.replicas ∙ f.replicas ∙ sym sizes.replicas;
   readers = lengths.readers ∙ f.readers ∙ sym sizes.readers;

@@ -1,15 +1,10 @@
 -- A register that owns its tables: they fit, they are sound, and a call leaves them so.
-use Rattle.std.proofs.Common.{◌≡◌, ℕ, ◌+◌, ◌<◌, ◌≤◌, true, List, length, vec_items, vec_len, sym, refl, ap, ◌∙◌, subst, arith}
+use Rattle.std.proofs.Common.{◌≡◌, true, length, sym, refl, ap, ◌∙◌, subst}
 use Rattle.std.specs.Vec.{with_items}
 use Rattle.std.proofs.lemmas.List.{with_items_is}
 use Rattle.quorum.specs.Sets.{Rule}
 use Rattle.quorum.specs.Meaning.{rule_of}
 use Rattle.quorum.specs.declared.system.QuorumSystem.{Ghosts}
-use Rattle.model.specs.declared.replica.Replica.{Replica}
-use Rattle.model.specs.declared.reader.Reader.{Reader}
-use Rattle.model.specs.declared.marks.RelayMark.{RelayMark}
-use Rattle.model.specs.declared.messages.Message.{Message}
-use Rattle.model.specs.declared.journal.Operation.{Operation}
 use Rattle.model.specs.declared.calls.Call.{Call}
 use Rattle.model.specs.Answers.{Answer}
 use Rattle.model.specs.State.{State}
@@ -19,78 +14,62 @@ use Rattle.model.proofs.SoundCalls.{sound_kept}
 use Rattle.tables.specs.declared.numbers.Numbers.{Numbers}
 use Rattle.register.specs.declared.service.cluster.OwnedTables.{OwnedTables}
 use Rattle.register.specs.declared.service.cluster.Cluster.{Cluster}
-use Rattle.tables.specs.View.{Tables, tables, view, Fitting, rule_for}
-use Rattle.steps.specs.Doing.{judged, Advances}
-use Rattle.steps.specs.Queueing.{window}
-use Rattle.steps.proofs.Queues.{window_long}
+use Rattle.tables.specs.View.{Tables, view, Fitting, rule_for}
+use Rattle.steps.specs.Doing.{judged, Does}
 use Rattle.register.specs.Owned.{owned}
-use Rattle.register.specs.Clusters.{cluster_state, cluster_rule, Steps}
+use Rattle.register.specs.Clusters.{cluster_tables, cluster_state, cluster_rule, Steps}
 use Rattle.register.proofs.Histories.{step_sound, lengthens}
-use Rattle.register.proofs.Calling.{rule_is}
+use Rattle.register.proofs.Calling.{SameLengths, fitting_still, rule_is}
 
--- The five lists that are lent to a call, of the messages the whole queue.
-pub record Lent (F : Type 0) : Type 0 where
-  pub replicas : List (Replica F)
-  pub readers : List (Reader F)
-  pub marks : List RelayMark
-  pub queue : List (Message F)
-  pub journal : List (Operation F)
-
-abbrev pub lists : {F : Type 0} → OwnedTables F → Lent F
-lists o = record {
-  replicas = vec_items o.replicas;
-  readers = vec_items o.readers;
-  marks = vec_items o.marks;
-  queue = vec_items o.queue;
-  journal = vec_items o.journal;
+abbrev pub refilled : {F : Type 0} → OwnedTables F → Tables F → OwnedTables F
+refilled o t = record {
+  replicas = with_items o.replicas t.replicas;
+  readers = with_items o.readers t.readers;
+  marks = with_items o.marks t.marks;
+  messages = with_items o.messages t.messages;
+  journal = with_items o.journal t.journal;
 }
-
-abbrev pub lent_tables : {F : Type 0} → ℕ → ℕ → Lent F → Tables F
-lent_tables head room l = tables l.replicas l.readers l.marks (window head room l.queue) l.journal
 
 -- Each came back as long as it was.
-pub record AsLong {F : Type 0} (o : OwnedTables F) (l : Lent F) : Type 0 where
-  pub replicas : length l.replicas ≡ o.replicas.len
-  pub readers : length l.readers ≡ o.readers.len
-  pub marks : length l.marks ≡ o.marks.len
-  pub queue : length l.queue ≡ o.queue.len
-  pub journal : length l.journal ≡ o.journal.len
+pub record AsLong {F : Type 0} (o : OwnedTables F) (t : Tables F) : Type 0 where
+  pub replicas : length t.replicas ≡ o.replicas.len
+  pub readers : length t.readers ≡ o.readers.len
+  pub marks : length t.marks ≡ o.marks.len
+  pub messages : length t.messages ≡ o.messages.len
+  pub journal : length t.journal ≡ o.journal.len
 
-abbrev pub refilled : {F : Type 0} → OwnedTables F → ℕ → Lent F → OwnedTables F
-refilled o head l = record {
-  replicas = with_items o.replicas l.replicas;
-  readers = with_items o.readers l.readers;
-  marks = with_items o.marks l.marks;
-  queue = with_items o.queue l.queue;
-  head = head;
-  journal = with_items o.journal l.journal;
-}
+module _ {F : Type 0} (o : OwnedTables F) (t : Tables F) (long : AsLong o t) where
+  refilled_are : owned (refilled o t) ≡ t
+  refilled_are =
+      rw (
+        with_items_is o.replicas t.replicas long.replicas,
+        with_items_is o.readers t.readers long.readers,
+        with_items_is o.marks t.marks long.marks,
+        with_items_is o.messages t.messages long.messages,
+        with_items_is o.journal t.journal long.journal,
+      ) refl
 
-refilled_are : {F : Type 0} (o : OwnedTables F) (head room : ℕ) (l : Lent F) → AsLong o l
-    → owned room (refilled o head l) ≡ lent_tables head room l
-refilled_are o head room l long =
-    rw (
-      with_items_is o.replicas l.replicas long.replicas,
-      with_items_is o.readers l.readers long.readers,
-      with_items_is o.marks l.marks long.marks,
-      with_items_is o.queue l.queue long.queue,
-      with_items_is o.journal l.journal long.journal,
-    ) refl
+  as_long : SameLengths (owned o) t
+  as_long = record {
+    replicas = long.replicas ∙ o.replicas.ok.0;
+    readers = long.readers ∙ o.readers.ok.0;
+    marks = long.marks ∙ o.marks.ok.0;
+    messages = long.messages ∙ o.messages.ok.0;
+    journal = long.journal ∙ o.journal.ok.0;
+  }
 
--- What a call took of them, and what it gave back.
+-- The tables that a call was lent, and as it left them.
 pub record Loan {F : Type 0} (o : OwnedTables F) : Type 0 where
-  pub lent : Lent F
-  pub back : Lent F
-  pub is : lent ≡ lists o
+  pub lent : Tables F
+  pub back : Tables F
+  pub is : lent ≡ owned o
   pub long : AsLong o back
 
--- A call behind the check, over the lists that a cluster lent.
-module _ {R F : Type 0} {g : Ghosts R} (x : Cluster R F g) (c : Call F) (loan : Loan x.tables) (r : Answer F) (head : ℕ)
-    (n' : Numbers) (within : head + x.register.numbers.message_room ≤ length loan.lent.queue)
-    (did : Advances x.register.start
-    (judged (rule_for g x.register.rule x.register.numbers.replicas)
-    (view x.register.start x.register.numbers (lent_tables x.tables.head x.register.numbers.message_room loan.lent)) c)
-    x.register.numbers r n' (lent_tables head x.register.numbers.message_room loan.back)) where
+-- A call behind the check, over the tables that a cluster lent.
+module _ {R F : Type 0} {g : Ghosts R} (x : Cluster R F g) (c : Call F) (loan : Loan x.tables) (r : Answer F) (n' : Numbers)
+    (does : Does x.register.start
+    (judged (rule_for g x.register.rule x.register.numbers.replicas) (view x.register.start x.register.numbers loan.lent) c)
+    x.register.numbers loan.lent r n' loan.back) where
   abbrev n : Numbers
   n = x.register.numbers
 
@@ -100,59 +79,30 @@ module _ {R F : Type 0} {g : Ghosts R} (x : Cluster R F g) (c : Call F) (loan : 
   abbrev rule : Rule
   rule = cluster_rule x
 
-  abbrev after : State F
-  after = view start n' (owned n'.message_room (refilled x.tables head loan.back))
-
   -- what the tables are now
-  held : owned n'.message_room (refilled x.tables head loan.back) ≡ lent_tables head n.message_room loan.back
-  held =
-      refilled_are x.tables head n'.message_room loan.back loan.long
-      ∙ ap (λ (room : ℕ). lent_tables head room loan.back) did.sizes.message_room
+  tables_are : owned (refilled x.tables loan.back) ≡ loan.back
+  tables_are = refilled_are x.tables loan.back loan.long
 
-  stepped : judged (rule_for g x.register.rule n.replicas) (view start n (lent_tables x.tables.head n.message_room loan.lent)) c
-      ≡ step rule (cluster_state x) c
-  stepped =
-      ap (λ (l : Rule). judged l (view start n (lent_tables x.tables.head n.message_room loan.lent)) c) (rule_is x.register)
-      ∙ ap (λ (l : Lent F). judged rule (view start n (lent_tables x.tables.head n.message_room l)) c) loan.is
+  step_is : judged (rule_for g x.register.rule n.replicas) (view start n loan.lent) c ≡ step rule (cluster_state x) c
+  step_is =
+      ap (λ (l : Rule). judged l (view start n loan.lent) c) (rule_is x.register)
+      ∙ ap (λ (t : Tables F). judged rule (view start n t) c) loan.is
       ∙ sym (step_sound rule (cluster_state x) c x.sound)
 
+  abbrev after : State F
+  after = view start n' (owned (refilled x.tables loan.back))
+
   next : after ≡ (step rule (cluster_state x) c).next
-  next = ap (λ (t : Tables F). view start n' t) held ∙ did.state ∙ ap (λ (o : Outcome F). o.next) stepped
-
-  queue_long : length loan.lent.queue ≡ x.tables.queue.len
-  queue_long = ap (λ (l : Lent F). length l.queue) loan.is ∙ sym x.tables.queue.ok.0
-
-  -- they have the lengths that they had
-  fitting : Fitting n' (owned n'.message_room (refilled x.tables head loan.back))
-  fitting =
-      let same = did.sizes in
-      let long = loan.long in
-      let o = x.tables in
-      subst (Fitting n') (sym held)
-      (record {
-        replicas = long.replicas ∙ o.replicas.ok.0 ∙ x.fits.replicas ∙ sym same.replicas;
-        readers = long.readers ∙ o.readers.ok.0 ∙ x.fits.readers ∙ sym same.readers;
-        marks = long.marks ∙ o.marks.ok.0 ∙ x.fits.marks ∙ sym (rw (same.replicas, same.readers));
-        messages = window_long head n.message_room loan.back.queue (omega (arith, within, queue_long, long.queue)) ∙ sym same.message_room;
-        journal = long.journal ∙ o.journal.ok.0 ∙ x.fits.journal ∙ sym same.journal_room;
-      })
+  next = ap (λ (t : Tables F). view start n' t) tables_are ∙ does.state ∙ ap (λ (o : Outcome F). o.next) step_is
 
   -- what the type of a cluster keeps
-  pub still
-      : record {
-        fits : Fitting n' (owned n'.message_room (refilled x.tables head loan.back));
-        queue_fits : head + n'.message_room ≤ vec_len x.tables.queue;
-        queue_slack : n'.message_room < vec_len x.tables.queue;
-        sound : sound rule after ≡ true;
-      }
-  still =
-      let same = did.sizes in
-      record {
-        fits = fitting;
-        queue_fits = omega (arith, within, queue_long, same.message_room);
-        queue_slack = omega (arith, x.queue_slack, same.message_room);
-        sound = ap (λ (s : State F). sound rule s) next ∙ sound_kept rule (cluster_state x) c x.sound;
-      }
+  pub still : record { fits : Fitting n' (owned (refilled x.tables loan.back)); sound : sound rule after ≡ true }
+  still = record {
+    fits =
+        subst (Fitting n') (sym tables_are)
+        (fitting_still {t = cluster_tables x} does.sizes (as_long x.tables loan.back loan.long) x.fits);
+    sound = ap (λ (s : State F). sound rule s) next ∙ sound_kept rule (cluster_state x) c x.sound;
+  }
 
   pub steps : (x' : Cluster R F g) → x'.register.rule ≡ x.register.rule → x'.register.start ≡ start
       → cluster_state x' ≡ after → Steps c x r x'
@@ -161,7 +111,7 @@ module _ {R F : Type 0} {g : Ghosts R} (x : Cluster R F g) (c : Call F) (loan : 
       record {
         rule = ap (λ (a : R). rule_of g a) same_rule;
         start = same_start;
-        answer = did.answer ∙ ap (λ (o : Outcome F). o.reply) stepped;
+        answer = does.answer ∙ ap (λ (o : Outcome F). o.reply) step_is;
         state = e;
         lengthens = lengthens rule start c _ _ e;
       }

@@ -21,7 +21,7 @@ use Rattle.register.specs.Runs.{Trace, Extends}
 use Rattle.register.specs.Service.{drafted, rooms_fit}
 
 abbrev pub cluster_tables : {R F : Type 0} {g : Ghosts R} → Cluster R F g → Tables F
-cluster_tables x = owned x.register.numbers.message_room x.tables
+cluster_tables x = owned x.tables
 
 abbrev pub cluster_state : {R F : Type 0} {g : Ghosts R} → Cluster R F g → State F
 cluster_state x = view x.register.start x.register.numbers (cluster_tables x)
@@ -29,14 +29,13 @@ cluster_state x = view x.register.start x.register.numbers (cluster_tables x)
 abbrev pub cluster_rule : {R F : Type 0} {g : Ghosts R} → Cluster R F g → Rule
 cluster_rule x = meaning x.register
 
--- New tables for a draft, with room for so many messages, twice, and for so many lines.
+-- New tables for a draft, with room for so many messages and lines.
 pub record Made {R F : Type 0} {g : Ghosts R} (d : Draft R F g) (message_room journal_room : ℕ) (o : OwnedTables F)
     : Type 0 where
   pub replicas : vec_items o.replicas ≡ replicate (drafted d).size (new_replica d.start)
   pub readers : vec_items o.readers ≡ replicate d.readers (new_reader d.start)
   pub marks : vec_items o.marks ≡ replicate ((drafted d).size * d.readers) new_mark
-  pub queue : vec_len o.queue ≡ 2 * message_room
-  pub head : o.head ≡ 0
+  pub messages : vec_len o.messages ≡ message_room
   pub journal : vec_len o.journal ≡ journal_room
 
 -- A call is the model's step: its answer, and what it leaves. It makes each history that led to the register longer.

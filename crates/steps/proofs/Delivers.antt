@@ -15,7 +15,7 @@ use Rattle.model.specs.Steps.{Outcome, outcome, declined, tests, done, deliver, 
 use Rattle.tables.specs.declared.numbers.Numbers.{Numbers}
 use Rattle.reaction.specs.declared.reaction.Reaction.{Reaction}
 use Rattle.tables.specs.View.{Tables, view, Fitting, Kept}
-use Rattle.steps.specs.Doing.{judged, SameSizes, Advances, Does}
+use Rattle.steps.specs.Doing.{judged, Does}
 use Rattle.steps.specs.Planning.{Planned}
 use Rattle.reaction.specs.Reactions.{reaction, beside_messages, Deliverable}
 use Rattle.reaction.specs.Applied.{applied, sent_by, Applicable}
@@ -25,7 +25,7 @@ use Rattle.reaction.proofs.Deliverables.{line_there, within_front}
 use Rattle.reaction.proofs.Arrivals.{deliverable, delivers}
 use Rattle.reaction.proofs.Suited.{applicable}
 use Rattle.steps.proofs.Parts.{applied_messages, applied_lines, does_then}
-use Rattle.steps.proofs.Renumbered.{sizes_then, waiting_is}
+use Rattle.steps.proofs.Renumbered.{waiting_is}
 use Rattle.model.specs.Answers.{Answer}
 
 -- THE MESSAGES after a reaction to the one at a place
@@ -152,13 +152,6 @@ module _ {F : Type 0} (rule : Rule) (start : F) (n : Numbers) (t : Tables F) (pl
   unfolding done
   next_done = ap (λ (e : Effect F). (outcome [] e).next) (sym plan.effect)
 
-  -- however it was taken out
-  pub delivered : SameSizes n n₁ → Advances start (judged rule (view start n t) (Call.Deliver place)) n q n' t'
-  delivered same =
-      rw plan.granted
-      (record { answer = answer_done; state = then.state ∙ next_done; kept = then.kept; sizes = sizes_then same then.sizes })
-
-  -- and where the later messages moved up
   pub deliver_done : Kept n → Fitting n t → Does start (dropped (view start n t) place) n t (Ok Reply.Done) n₁ t₁
       → Does start (judged rule (view start n t) (Call.Deliver place)) n t q n' t'
   unfolding dropped

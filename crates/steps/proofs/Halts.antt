@@ -66,7 +66,10 @@ module _ {F : Type 0} (start : F) (rule : Rule) (n : Numbers) (t : Tables F) (ke
       let l = ap length (messages_stay s p) in
       let fits : length (stopped s p).messages ≤ n.message_room = omega (arith, kept.room) in
       rw (sym v, le-ltb _ _ fits) (record {
-        advances = record { answer = refl; state = e; kept = k; sizes = z };
+        answer = refl;
+        state = e;
+        kept = k;
+        sizes = z;
         messages =
             em ∙ sym (stored_own n.waiting t.messages) ∙ ap (λ (ms : List _). stored ms t.messages) (sym (messages_stay s p));
         journal =

@@ -45,7 +45,10 @@ judged_by rule s c ts v e d =
 pub declines : {F : Type 0} (start : F) (o : Outcome F) (n : Numbers) (t : Tables F) (e : Refusal) → Kept n
     → o ≡ declined (view start n t) e → Does start o n t (Err e) n t
 declines start o n t e kept d = rw d (record {
-  advances = record { answer = refl; state = refl; kept = kept; sizes = same_sizes n };
+  answer = refl;
+  state = refl;
+  kept = kept;
+  sizes = same_sizes n;
   messages = sym (stored_own n.waiting t.messages);
   journal = sym (stored_own n.lines t.journal);
 })

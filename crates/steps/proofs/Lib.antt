@@ -11,4 +11,3 @@ pub mod Transits
 pub mod Halts
 pub mod Parts
 pub mod Delivers
-pub mod Queues

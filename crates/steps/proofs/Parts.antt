@@ -48,7 +48,10 @@ pub does_then : {F : Type 0} {start : F} {n m l : Numbers} {t u v : Tables F} {q
     → length a.next.messages ≤ length b.next.messages → length a.next.journal ≤ length b.next.journal
     → (p : Answer F) → p ≡ o.reply → b.next ≡ o.next → Does start o n t p l v
 does_then {F} {start} {n} {m} {l} {t} {u} {v} a b o first then more_messages more_lines p reply next = record {
-  advances = record { answer = reply; state = then.state ∙ next; kept = then.kept; sizes = sizes_then first.sizes then.sizes };
+  answer = reply;
+  state = then.state ∙ next;
+  kept = then.kept;
+  sizes = sizes_then first.sizes then.sizes;
   messages =
       then.messages ∙ ap (λ (x : List (Message F)). stored b.next.messages x) first.messages
       ∙ stored_stored a.next.messages b.next.messages t.messages more_messages
@@ -104,16 +107,14 @@ module _ {F : Type 0} (start : F) (n : Numbers) (t : Tables F) (kept : Kept n)
         (Ok (Reply.Finished f.operation f.stamp f.figure row.sent f.exchanges)) (with_finished n (one_more n.finished))
         (tables t.replicas t.readers t.marks t.messages (set t.journal (f.operation - 1) (ends row n.lines)))
     ends_some = record {
-      advances = record {
-        answer = ap (λ (x : Operation F). Ok (Reply.Finished f.operation f.stamp f.figure x.sent f.exchanges)) (sym found);
-        state =
-            ap (λ (js : List (Operation F)). with_journal s js (one_more n.finished))
-            (ap (λ (js : List (Operation F)). take n.lines js) written
-            ∙ take_stored front t.journal n.lines
-            (length-set (take n.lines t.journal) (pred f.operation) _ ∙ lines_are n t kept fj));
-        kept = kept_finished n kept (one_more n.finished);
-        sizes = record { replicas = refl; readers = refl; message_room = refl; journal_room = refl };
-      };
+      answer = ap (λ (x : Operation F). Ok (Reply.Finished f.operation f.stamp f.figure x.sent f.exchanges)) (sym found);
+      state =
+          ap (λ (js : List (Operation F)). with_journal s js (one_more n.finished))
+          (ap (λ (js : List (Operation F)). take n.lines js) written
+          ∙ take_stored front t.journal n.lines
+          (length-set (take n.lines t.journal) (pred f.operation) _ ∙ lines_are n t kept fj));
+      kept = kept_finished n kept (one_more n.finished);
+      sizes = record { replicas = refl; readers = refl; message_room = refl; journal_room = refl };
       messages = sym (stored_own n.waiting t.messages);
       journal = written;
     }
@@ -136,15 +137,13 @@ module _ {F : Type 0} (start : F) (n : Numbers) (t : Tables F) (kept : Kept n)
     pub sends : Does start (outcome [] (sending s l)) n t (Ok Reply.Done) (with_waiting n (n.waiting + length l))
         (tables t.replicas t.readers t.marks (stored more_wait t.messages) (stored tallied t.journal))
     sends = record {
-      advances = record {
-        answer = refl;
-        state =
-            ap₂ (λ (ms : List (Message F)) (js : List (Operation F)). record s { messages = ms; journal = js })
-            (take_stored more_wait t.messages (n.waiting + length l) wait_are)
-            (take_stored tallied t.journal n.lines tallied_are);
-        kept = kept_stays n n.writer (n.waiting + length l) n.lines n.finished kept room kept.lines_fit kept.stamps;
-        sizes = record { replicas = refl; readers = refl; message_room = refl; journal_room = refl };
-      };
+      answer = refl;
+      state =
+          ap₂ (λ (ms : List (Message F)) (js : List (Operation F)). record s { messages = ms; journal = js })
+          (take_stored more_wait t.messages (n.waiting + length l) wait_are)
+          (take_stored tallied t.journal n.lines tallied_are);
+      kept = kept_stays n n.writer (n.waiting + length l) n.lines n.finished kept room kept.lines_fit kept.stamps;
+      sizes = record { replicas = refl; readers = refl; message_room = refl; journal_room = refl };
       messages = refl;
       journal = refl;
     }
@@ -237,12 +236,10 @@ module _ {F : Type 0} (start : F) (n : Numbers) (t : Tables F) (kept : Kept n)
 
   changes : Does start record_change n t (Ok Reply.Done) n₁ t₁
   changes = record {
-    advances = record {
-      answer = refl;
-      state = refl;
-      kept = kept_writer n kept r.writer same;
-      sizes = record { replicas = refl; readers = refl; message_room = refl; journal_room = refl };
-    };
+    answer = refl;
+    state = refl;
+    kept = kept_writer n kept r.writer same;
+    sizes = record { replicas = refl; readers = refl; message_room = refl; journal_room = refl };
     messages = sym (stored_own n.waiting t.messages);
     journal = sym (stored_own n.lines t.journal);
   }

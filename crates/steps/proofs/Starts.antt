@@ -110,15 +110,13 @@ module _ {F : Type 0} (start : F) (rule : Rule) (n : Numbers) (t : Tables F) (ke
         let front = take_stored messages_now t.messages (n.waiting + n.replicas) messages_long in
         let lines = take_stored lines_now t.journal (n.lines + 1) lines_long in
         record {
-          advances = record {
-            answer = ap (λ (i : ℕ). Ok (Reply.Started i)) answer;
-            state =
-                ap₂ (λ (ms : List (Message F)) (js : List (Operation F)).
-                record s { writer = w; readers = ds; messages = ms; journal = js })
-                (front ∙ sym messages_same) (lines ∙ sym counts);
-            kept = kept_stays n w (n.waiting + n.replicas) (n.lines + 1) n.finished kept room (omega arith) stamp;
-            sizes = sizes_stay n w (n.waiting + n.replicas) (n.lines + 1) n.finished;
-          };
+          answer = ap (λ (i : ℕ). Ok (Reply.Started i)) answer;
+          state =
+              ap₂ (λ (ms : List (Message F)) (js : List (Operation F)).
+              record s { writer = w; readers = ds; messages = ms; journal = js })
+              (front ∙ sym messages_same) (lines ∙ sym counts);
+          kept = kept_stays n w (n.waiting + n.replicas) (n.lines + 1) n.finished kept room (omega arith) stamp;
+          sizes = sizes_stay n w (n.waiting + n.replicas) (n.lines + 1) n.finished;
           messages = ap (λ (ms : List (Message F)). stored ms t.messages) (sym messages_same);
           journal = ap (λ (js : List (Operation F)). stored js t.journal) (sym counts);
         }

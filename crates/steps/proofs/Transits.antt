@@ -28,12 +28,10 @@ module _ {F : Type 0} (start : F) (rule : Rule) (n : Numbers) (t : Tables F) (ke
       → Does start (record { reply = Ok Reply.Done; taken = taken; sent = []; next = with_messages s front }) n t (Ok Reply.Done)
       (with_waiting n w) (tables t.replicas t.readers t.marks (stored front t.messages) t.journal)
   others_wait taken w front e room = record {
-    advances = record {
-      answer = refl;
-      state = ap (λ (ms : List (Message F)). with_messages s ms) (take_stored front t.messages w e);
-      kept = kept_stays n n.writer w n.lines n.finished kept room kept.lines_fit kept.stamps;
-      sizes = sizes_stay n n.writer w n.lines n.finished;
-    };
+    answer = refl;
+    state = ap (λ (ms : List (Message F)). with_messages s ms) (take_stored front t.messages w e);
+    kept = kept_stays n n.writer w n.lines n.finished kept room kept.lines_fit kept.stamps;
+    sizes = sizes_stay n n.writer w n.lines n.finished;
     messages = refl;
     journal = sym (stored_own n.lines t.journal);
   }

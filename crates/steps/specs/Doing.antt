@@ -20,18 +20,12 @@ pub record SameSizes (n after : Numbers) : Type 0 where
   pub journal_room : after.journal_room ≡ n.journal_room
 
 -- The answer and the state are those of the outcome, the numbers are still such as a register in service has, and the tables
--- as long.
-pub record Advances {F : Type 0} (start : F) (o : Outcome F) (n : Numbers) (r : Answer F) (n' : Numbers) (t' : Tables F)
-    : Type 0 where
+-- as long. Places of the messages and the journal that are not in use keep what they held.
+pub record Does {F : Type 0} (start : F) (o : Outcome F) (n : Numbers) (t : Tables F) (r : Answer F) (n' : Numbers)
+    (t' : Tables F) : Type 0 where
   pub answer : r ≡ o.reply
   pub state : view start n' t' ≡ o.next
   pub kept : Kept n'
   pub sizes : SameSizes n n'
-
--- Besides, places of the messages and the journal that are not in use keep what they held.
-pub record Does {F : Type 0} (start : F) (o : Outcome F) (n : Numbers) (t : Tables F) (r : Answer F) (n' : Numbers)
-    (t' : Tables F) : Type 0 where
-  pub advances : Advances start o n r n' t'
-  pub open advances use *
   pub messages : t'.messages ≡ stored o.next.messages t.messages
   pub journal : t'.journal ≡ stored o.next.journal t.journal

@@ -5,4 +5,3 @@ pub mod Refusing
 pub mod Renumbered
 pub mod Applying
 pub mod Planning
-pub mod Queueing

@@ -46,10 +46,8 @@ pub fn deliver_message<R: QuorumSystem, F: Copy>(
     ))
 }
 
-/// What the delivery of the message at a place of sound tables will do, or why it is declined.
-///
-/// Nothing is altered: so want of room leaves everything as it was.
-pub fn plan_delivery<R: QuorumSystem, F: Copy>(
+// What the delivery will do, or why it is declined. Nothing is altered: so want of room leaves everything as it was.
+fn plan_delivery<R: QuorumSystem, F: Copy>(
     rule: &R,
     start: F,
     numbers: &Numbers,
@@ -81,8 +79,8 @@ pub fn plan_delivery<R: QuorumSystem, F: Copy>(
     Ok(reaction)
 }
 
-/// Changes the records, finishes what finishes and sends what is sent. Gives the answer of the delivery.
-pub fn apply<F: Copy>(
+// Changes the records, finishes what finishes and sends what is sent. Gives the answer of the delivery.
+fn apply<F: Copy>(
     numbers: &mut Numbers,
     replicas: &mut [Replica<F>],
     readers: &mut [Reader<F>],

@@ -9,8 +9,6 @@
 mod applying;
 mod delivering;
 mod halting;
-mod queue;
-mod queued;
 mod starting;
 mod stepping;
 mod tools;
@@ -18,7 +16,6 @@ mod transit;
 
 pub use delivering::deliver_message;
 pub use halting::halt_party;
-pub use queued::step_queued;
 pub use starting::{start_read, start_write};
 pub use stepping::step;
 pub use transit::{drop_message, duplicate_message};

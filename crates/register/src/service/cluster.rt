@@ -1,4 +1,4 @@
-ghost use Rattle.std.specs.Prelude.{◌≡◌, ◌+◌, ◌<◌, ◌≤◌, true, vec_len};
+ghost use Rattle.std.specs.Prelude.{◌≡◌, true};
 ghost use Rattle.quorum.specs.Meaning.{rule_of};
 ghost use Rattle.model.specs.Sound.{sound as is_sound};
 ghost use Rattle.tables.specs.View.{view, Fitting};
@@ -15,9 +15,7 @@ struct OwnedTables<F> {
     replicas: Vec<Replica<F>>,
     readers: Vec<Reader<F>>,
     marks: Vec<RelayMark>,
-    /// The table of messages is the part that begins at `head`: so the first ones can be taken out without moving the others.
-    queue: Vec<Message<F>>,
-    head: usize,
+    messages: Vec<Message<F>>,
     journal: Vec<Operation<F>>,
 }
 
@@ -26,10 +24,8 @@ struct OwnedTables<F> {
 pub struct Cluster<R: QuorumSystem, F> {
     register: Register<R, F>,
     tables: OwnedTables<F>,
-    ghost fits: { Fitting register.numbers (owned register.numbers.message_room tables) },
-    ghost queue_fits: { tables.head + register.numbers.message_room ≤ vec_len tables.queue },
-    ghost queue_slack: { register.numbers.message_room < vec_len tables.queue },
-    ghost sound: { is_sound (rule_of R.QuorumSystem register.rule) (view register.start register.numbers (owned register.numbers.message_room tables)) ≡ true },
+    ghost fits: { Fitting register.numbers (owned tables) },
+    ghost sound: { is_sound (rule_of R.QuorumSystem register.rule) (view register.start register.numbers (owned tables)) ≡ true },
 }
 
 /// A draft that was not put into service over tables of its own, and why.

@@ -14,7 +14,7 @@ const REPLICAS: usize = 24;
 const WAITING: usize = 1_000;
 /// A relay read may start where its relayed messages find room.
 const WAITING_BEFORE_RELAY: usize = WAITING - REPLICAS * REPLICAS;
-/// For so many lines the queue is kept full before it is emptied for the next relay read.
+/// For so many lines as many messages as may wait do, before they are delivered for the next relay read.
 const LINES_WITH_RELAY: usize = 600;
 
 /// Name, first line, a write and the kinds of read, one after the other, of each script.

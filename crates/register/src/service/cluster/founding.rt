@@ -54,9 +54,7 @@ impl<R: QuorumSystem, F: Copy> Draft<R, F> {
             replicas: filled(heap, size, Replica::new(start))?,
             readers: filled(heap, width, Reader::new(start))?,
             marks: filled(heap, size * width, RelayMark::default())?,
-            // as much room again, so that the table seldom has to move
-            queue: filled(heap, 2 * message_room, Message::blank(start))?,
-            head: 0,
+            messages: filled(heap, message_room, Message::blank(start))?,
             journal: filled(heap, journal_room, Operation::blank(start))?,
         })
     }

@@ -3,7 +3,7 @@ ghost use Rattle.register.specs.Clusters.{Steps};
 use super::Cluster;
 use model::{Call, Refusal, Reply};
 use quorum::QuorumSystem;
-use steps::step_queued;
+use steps::step;
 
 impl<R: QuorumSystem, F: Copy> Cluster<R, F> {
     /// Does any of the six calls.
@@ -11,15 +11,14 @@ impl<R: QuorumSystem, F: Copy> Cluster<R, F> {
         ensures { Steps call self.old result self.new }
     {
         let Cluster { register, tables } = self;
-        step_queued(
+        step(
             &register.rule,
             register.start,
             &mut register.numbers,
             &mut tables.replicas,
             &mut tables.readers,
             &mut tables.marks,
-            &mut tables.queue,
-            &mut tables.head,
+            &mut tables.messages,
             &mut tables.journal,
             call,
         )
