@@ -11,19 +11,17 @@ mod service;
 mod tests;
 
 use console::{Failure, read_at_most, report};
+use player::MOST_BYTES;
 use playing::play;
 use std::io::{BufWriter, Write};
 use std::process::ExitCode;
-
-// A script has at most as many bytes.
-const MOST_BYTES: u64 = 65536;
 
 fn main(rt: HostRuntime) -> ExitCode {
     report(&rt, "lent_tables", run(&rt))
 }
 
 fn run(rt: &HostRuntime) -> Result<(), Failure> {
-    let script = read_at_most(rt.alloc(), rt.stdin(), MOST_BYTES)?;
+    let script = read_at_most(rt.alloc(), rt.stdin(), MOST_BYTES as u64)?;
     let mut out = BufWriter::new(rt.alloc(), rt.stdout())?;
     play(rt.alloc(), script.as_slice(), &mut out)?;
     out.flush()?;

@@ -4,6 +4,7 @@ use crate::service::{Lengths, Service, Tables};
 use anyhow::bail;
 use figure::{DigOrder, FigureKind, Tide};
 use model::Reply;
+use player::{JOURNAL_ROOM, MESSAGE_ROOM, MOST_ANSWER_BYTES};
 use quorum::QuorumSystem;
 use register::Draft;
 use script::{
@@ -12,11 +13,6 @@ use script::{
 use std::alloc::Global;
 use std::io::{self, Write};
 use text::LineCursor;
-
-// As docs/SCRIPT.md says.
-const MESSAGE_ROOM: usize = 1024;
-
-const JOURNAL_ROOM: usize = 256;
 
 /// Plays a script, and writes the answers as it goes. One whose first line is declined is no script to play.
 pub(crate) fn play<W: Write>(heap: Global, script: &[u8], to: &mut W) -> anyhow::Result<()> {
@@ -93,7 +89,7 @@ fn write_answer<F: FigureKind, W: Write>(
     answer: Result<Reply<F>, ScriptFault>,
     to: &mut W,
 ) -> io::Result<()> {
-    let mut buffer = [0; 80];
+    let mut buffer = [0; MOST_ANSWER_BYTES];
     // the printer refuses a buffer of less than 80 bytes, and no other
     let printed = print_answer(number, answer, &mut buffer).unwrap();
     to.write_all(&buffer[..printed])

@@ -13,3 +13,4 @@ pub use fault::PlayFault;
 pub use playing::{MOST_BYTES, play, play_through, play_to};
 pub use printing::MOST_ANSWER_BYTES;
 pub use session::{Opening, Session};
+pub use setting_up::{JOURNAL_ROOM, MESSAGE_ROOM};

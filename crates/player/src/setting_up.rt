@@ -12,10 +12,11 @@ use register::{Cluster, Draft, UnfoundedCause};
 use script::{Header, ScriptRule, make_rule};
 use std::alloc::{AllocError, Global};
 
-// How many messages may wait, and how many lines the journal has.
-const MESSAGE_ROOM: usize = 1024;
+/// How many messages may wait in a script's register.
+pub const MESSAGE_ROOM: usize = 1024;
 
-const JOURNAL_ROOM: usize = 256;
+/// How many lines the journal of a script's register has.
+pub const JOURNAL_ROOM: usize = 256;
 
 /// The draft of a register that a header says, or why there is none.
 pub fn draft<F: FigureKind>(header: Header) -> Result<Draft<ScriptRule, F>, RuleRefusal>
