@@ -6,6 +6,9 @@
 mod comparing;
 mod pack;
 
+ghost use Rattle.std.specs.Prelude.{◌≡◌, is_ok, IfErr};
+ghost use Rattle.console.specs.declared.ending.Failure.TheVariants.{OutputClosed};
+
 use anyhow::anyhow;
 use console::{Failure, Request, VERSION, only_argument, report};
 use std::env;
@@ -29,13 +32,16 @@ fn run(rt: &HostRuntime) -> Result<(), Failure> {
     match Request::of(word)? {
         Request::Help => print!(rt; "{USAGE}")?,
         Request::Version => println!(rt; "conformance {VERSION}")?,
-        Request::Work(folder) => return judged(compare_pack(rt, folder.unwrap_or("."))),
+        Request::Work(folder) => return as_verdict(compare_pack(rt, folder.unwrap_or("."))),
     }
     Ok(())
 }
 
 // Success is a verdict here: so a reader that has had enough before it is told is a fault.
-fn judged(outcome: Result<(), Failure>) -> Result<(), Failure> {
+fn as_verdict(outcome: Result<(), Failure>) -> Result<(), Failure>
+    ensures success { is_ok result ≡ is_ok outcome }
+    ensures fault { IfErr result (λ e. e ≡ OutputClosed → ⊥) }
+{
     match outcome {
         Err(Failure::OutputClosed) => {
             Err(anyhow!("the output was closed before all scripts were compared").into())
