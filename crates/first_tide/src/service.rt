@@ -9,7 +9,7 @@ ghost use Rattle.first_tide.specs.Lent.{lent};
 use crate::memory::Memory;
 use figure::Tide;
 use model::{Call, ReadKind, Refusal, Reply};
-use quorum::Count;
+use quorum::{Count, QuorumSystem};
 use register::{Register, Tally};
 use std::alloc::{AllocError, Global};
 
@@ -24,7 +24,7 @@ pub struct Service {
 impl Service {
     /// Writes the tide.
     pub fn write(&mut self, tide: Tide) -> Result<Reply<Tide>, Refusal>
-        ensures { Plays (ModelCall.Write tide) self.old.register (lent self.old.memory) result self.new.register (lent self.new.memory) }
+        ensures { Plays ⟦<Count as QuorumSystem>⟧ (ModelCall.Write tide) self.old.register (lent self.old.memory) result self.new.register (lent self.new.memory) }
     {
         let Service { register, memory } = self;
         register.write(
@@ -39,7 +39,7 @@ impl Service {
 
     /// Starts a quick read by the reader.
     pub fn read(&mut self) -> Result<Reply<Tide>, Refusal>
-        ensures { Plays (ModelCall.Read 0 ModelReadKind.Quick) self.old.register (lent self.old.memory) result self.new.register (lent self.new.memory) }
+        ensures { Plays ⟦<Count as QuorumSystem>⟧ (ModelCall.Read 0 ModelReadKind.Quick) self.old.register (lent self.old.memory) result self.new.register (lent self.new.memory) }
     {
         let Service { register, memory } = self;
         register.read(
@@ -55,7 +55,7 @@ impl Service {
 
     /// Delivers the message that has waited longest.
     pub fn deliver(&mut self) -> Result<Reply<Tide>, Refusal>
-        ensures { Plays (ModelCall.Deliver 0) self.old.register (lent self.old.memory) result self.new.register (lent self.new.memory) }
+        ensures { Plays ⟦<Count as QuorumSystem>⟧ (ModelCall.Deliver 0) self.old.register (lent self.old.memory) result self.new.register (lent self.new.memory) }
     {
         let Service { register, memory } = self;
         register.deliver(
@@ -70,7 +70,7 @@ impl Service {
 
     /// Loses the message that has waited longest.
     pub fn lose(&mut self) -> Result<Reply<Tide>, Refusal>
-        ensures { Plays (ModelCall.Drop 0) self.old.register (lent self.old.memory) result self.new.register (lent self.new.memory) }
+        ensures { Plays ⟦<Count as QuorumSystem>⟧ (ModelCall.Drop 0) self.old.register (lent self.old.memory) result self.new.register (lent self.new.memory) }
     {
         let Service { register, memory } = self;
         register.drop(
@@ -90,7 +90,7 @@ impl Service {
         calls: &[Call<Tide>],
     ) -> Result<Vec<Result<Reply<Tide>, Refusal>>, AllocError>
         ensures { MatchResult result
-            (λ replies. Runs calls.now self.old.register (lent self.old.memory) replies.items self.new.register (lent self.new.memory))
+            (λ replies. Runs ⟦<Count as QuorumSystem>⟧ calls.now self.old.register (lent self.old.memory) replies.items self.new.register (lent self.new.memory))
             (λ _. (self.new.register ≡ self.old.register) × (lent self.new.memory ≡ lent self.old.memory)) }
     {
         let Service { register, memory } = self;

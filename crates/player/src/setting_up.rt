@@ -7,7 +7,7 @@ ghost use Rattle.register.specs.Clusters.{cluster_state, cluster_rule};
 ghost use Rattle.register.specs.Service.{drafted};
 
 use figure::FigureKind;
-use quorum::RuleRefusal;
+use quorum::{QuorumSystem, RuleRefusal};
 use register::{Cluster, Draft, UnfoundedCause};
 use script::{Header, ScriptRule, make_rule};
 use std::alloc::{AllocError, Global};
@@ -21,7 +21,7 @@ pub const JOURNAL_ROOM: usize = 256;
 /// The draft of a register that a header says, or why there is none.
 pub fn draft<F: FigureKind>(header: Header) -> Result<Draft<ScriptRule, F>, RuleRefusal>
     ensures declines { result_err result ≡ opening header }
-    ensures makes { IfOk result (λ d. (drafted d ≡ rule_said header.rule) × (d.readers ≡ header.readers) × (d.start ≡ F.FigureKind.starting)) }
+    ensures makes { IfOk result (λ d. (drafted ⟦<ScriptRule as QuorumSystem>⟧ d ≡ rule_said header.rule) × (d.readers ≡ header.readers) × (d.start ≡ F.FigureKind.starting)) }
 {
     let rule = make_rule(header.rule)?;
     Draft::new(rule, header.readers, F::start())
@@ -32,7 +32,8 @@ pub fn found<F: FigureKind>(
     heap: Global,
     draft: Draft<ScriptRule, F>,
 ) -> Result<Cluster<ScriptRule, F>, AllocError>
-    ensures { IfOk result (λ x. (cluster_rule x ≡ drafted draft) × (cluster_state x ≡ fresh (drafted draft) draft.start draft.readers 1024 256)) }
+    ensures { IfOk result (λ x. (cluster_rule ⟦<ScriptRule as QuorumSystem>⟧ x ≡ drafted ⟦<ScriptRule as QuorumSystem>⟧ draft)
+        × (cluster_state x ≡ fresh (drafted ⟦<ScriptRule as QuorumSystem>⟧ draft) draft.start draft.readers 1024 256)) }
 {
     match draft.found(heap, MESSAGE_ROOM, JOURNAL_ROOM) {
         Ok(cluster) => Ok(cluster),

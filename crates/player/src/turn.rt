@@ -13,9 +13,9 @@ pub fn play_line<R: QuorumSystem, F: FigureKind>(
     cluster: &mut Cluster<R, F>,
     line: &[u8],
 ) -> Result<Reply<F>, ScriptFault>
-    ensures answer { result ≡ (turn F.FigureKind (cluster_rule cluster.old) (cluster_state cluster.old) line.now).answer }
-    ensures state { cluster_state cluster.new ≡ (turn F.FigureKind (cluster_rule cluster.old) (cluster_state cluster.old) line.now).next }
-    ensures rule { cluster_rule cluster.new ≡ cluster_rule cluster.old }
+    ensures answer { result ≡ (turn F.FigureKind (cluster_rule R.QuorumSystem cluster.old) (cluster_state cluster.old) line.now).answer }
+    ensures state { cluster_state cluster.new ≡ (turn F.FigureKind (cluster_rule R.QuorumSystem cluster.old) (cluster_state cluster.old) line.now).next }
+    ensures rule { cluster_rule R.QuorumSystem cluster.new ≡ cluster_rule R.QuorumSystem cluster.old }
 {
     let call = read_call(line)?;
     Ok(cluster.call(call)?)

@@ -1,5 +1,5 @@
 -- A call carries the claims, whatever the lengths of the tables are.
-use Rattle.std.proofs.Common.{◌≡◌, ℕ, true, false, Err, length, sym, refl, ap, ◌∙◌, subst}
+use Rattle.std.proofs.Common.{◌≡◌, true, false, Err, length, sym, refl, ◌∙◌, subst}
 use Rattle.std.specs.Result.{IsErrAnd}
 use Rattle.std.proofs.lemmas.Bool.{and_parts, eqb-true, eq-eqb}
 use Rattle.std.proofs.lemmas.Result.{err_from_is_err_and}
@@ -11,7 +11,7 @@ use Rattle.model.specs.declared.answers.Refusal.{Refusal}
 use Rattle.model.specs.Sound.{sound}
 use Rattle.model.specs.Steps.{Outcome, step}
 use Rattle.tables.specs.declared.numbers.Numbers.{Numbers}
-use Rattle.tables.specs.View.{Tables, view, Fitting, Kept, rule_for}
+use Rattle.tables.specs.View.{Tables, view, Fitting, Kept}
 use Rattle.steps.specs.Doing.{judged, Does, SameSizes}
 use Rattle.register.specs.Histories.{Carries}
 use Rattle.register.specs.declared.service.Register.{Register}
@@ -95,41 +95,26 @@ module _ {F : Type 0} (rule : Rule) (start : F) (n : Numbers) (t : Tables F) whe
 
 -- THE REGISTER
 
-module _ {R F : Type 0} {g : Ghosts R} (x : Register R F g) where
-  -- the rule over the replicas that the numbers say
-  pub rule_is : rule_for g x.rule x.numbers.replicas ≡ meaning x
-  rule_is = ap (λ (size : ℕ). rule_for g x.rule size) x.sized
+module _ {R F : Type 0} {g : Ghosts R} (x : Register R F) {t : Tables F} where
+  -- where the check's refusal is handed on
+  pub plays_declined : {c : Call F} (r : Answer F) (e : Refusal) → IsErrAnd r (λ y. y ≡ e)
+      → Declines (meaning g x) x.start x.numbers t e → Plays g c x t r x t
+  plays_declined {c} r e is all =
+      let p = err_from_is_err_and r is in
+      rw (p.1, p.2)
+      (record {
+        rule = refl;
+        start = refl;
+        untouched = λ _. refl;
+        carries = carries_declined _ _ _ _ c e x.kept all;
+      })
 
-  module _ {t : Tables F} where
-    -- where the check's refusal is handed on
-    pub plays_declined : {c : Call F} (r : Answer F) (e : Refusal) → IsErrAnd r (λ y. y ≡ e)
-        → Declines (meaning x) x.start x.numbers t e → Plays c x t r x t
-    plays_declined {c} r e is all =
-        let p = err_from_is_err_and r is in
-        rw (p.1, p.2)
-        (record {
-          rule = refl;
-          start = refl;
-          untouched = λ _. refl;
-          carries = carries_declined _ _ _ _ c e x.kept all;
-        })
-
-    module _ {c : Call F} {r : Answer F} {n' : Numbers} {t' : Tables F} where
-      pub plays_judged : (x' : Register R F g) → x'.rule ≡ x.rule → x'.start ≡ x.start → x'.numbers ≡ n'
-          → Checked (meaning x) x.start x.numbers t → SameLengths t t'
-          → Does x.start (judged (meaning x) (view x.start x.numbers t) c) x.numbers t r n' t' → Plays c x t r x' t'
-      plays_judged x' rule start numbers checked lengths d = record {
-        rule = rule;
-        start = start;
-        untouched = λ e. let f = fitting_tells x.numbers t checked.fitting in cc;
-        carries = rw numbers (carries_judged _ _ _ _ c r n' t' checked lengths d);
-      }
-
-      -- where the rule's size was read from the numbers
-      pub plays_sized : (x' : Register R F g) → x'.rule ≡ x.rule → x'.start ≡ x.start → x'.numbers ≡ n'
-          → Checked (meaning x) x.start x.numbers t → SameLengths t t'
-          → Does x.start (judged (rule_for g x.rule x.numbers.replicas) (view x.start x.numbers t) c) x.numbers t r n' t'
-          → Plays c x t r x' t'
-      plays_sized x' rule start numbers checked lengths d =
-          plays_judged x' rule start numbers checked lengths
-          (subst (λ (l : Rule). Does x.start (judged l (view x.start x.numbers t) c) x.numbers t r n' t') rule_is d)
+  pub plays_judged : {c : Call F} {r : Answer F} {n' : Numbers} {t' : Tables F} (x' : Register R F) → x'.rule ≡ x.rule
+      → x'.start ≡ x.start → x'.numbers ≡ n' → Checked (meaning g x) x.start x.numbers t → SameLengths t t'
+      → Does x.start (judged (meaning g x) (view x.start x.numbers t) c) x.numbers t r n' t' → Plays g c x t r x' t'
+  plays_judged {c} {r} {n'} {t'} x' rule start numbers checked lengths d = record {
+    rule = rule;
+    start = start;
+    untouched = λ e. let f = fitting_tells x.numbers t checked.fitting in cc;
+    carries = rw numbers (carries_judged _ _ _ _ c r n' t' checked lengths d);
+  }

@@ -1,7 +1,6 @@
 -- A register over filled tables is newly in service.
 use Rattle.std.proofs.Common.{◌≡◌, ℕ, true, [], length, replicate, sym, refl, ap, ◌∙◌, subst, arith}
 use Rattle.std.proofs.lemmas.Bool.Decides.{nat_tests}
-use Rattle.quorum.specs.Meaning.{rule_of}
 use Rattle.quorum.specs.declared.system.QuorumSystem.{Ghosts}
 use Rattle.model.specs.Stamps.{no_stamp}
 use Rattle.model.specs.State.{State, fresh, new_replica, new_reader, new_mark}
@@ -15,9 +14,9 @@ use Rattle.register.specs.Calls.{meaning}
 use Rattle.register.specs.Commissioning.{new_numbers, Filled}
 use Rattle.register.specs.Service.{drafted, rooms_fit, allowed, Opened, InService}
 
-module _ {R F : Type 0} {g : Ghosts R} (d : Draft R F g) where
+module _ {R F : Type 0} (d : Draft R F) where
   pub kept_first : (message_room journal_room : ℕ) → rooms_fit d message_room journal_room ≡ true → (n : Numbers)
-      → n ≡ new_numbers (drafted d).size d.readers message_room journal_room → Kept n
+      → n ≡ new_numbers d.replicas d.readers message_room journal_room → Kept n
   unfolding no_stamp
   kept_first message_room journal_room fit n e = rw e (record {
     some_replica = d.some_replica;
@@ -31,9 +30,9 @@ module _ {R F : Type 0} {g : Ghosts R} (d : Draft R F g) where
     stamps = omega arith;
   })
 
-  module _ (t : Tables F) (fit : allowed d t ≡ true) (filled : Filled d.start t) where
+  module _ (g : Ghosts R) (t : Tables F) (fit : allowed d t ≡ true) (filled : Filled d.start t) where
     abbrev first : Numbers
-    first = new_numbers (drafted d).size d.readers (length t.messages) (length t.journal)
+    first = new_numbers d.replicas d.readers (length t.messages) (length t.journal)
 
     fits : Fitting first t
     fits = record {
@@ -44,7 +43,7 @@ module _ {R F : Type 0} {g : Ghosts R} (d : Draft R F g) where
       journal = refl;
     }
 
-    state : view d.start first t ≡ fresh (drafted d) d.start d.readers (length t.messages) (length t.journal)
+    state : view d.start first t ≡ fresh (drafted g d) d.start d.readers (length t.messages) (length t.journal)
     unfolding fresh
     state =
         let rs = filled.replicas ∙ ap (λ (n : ℕ). replicate n (new_replica d.start)) fits.replicas in
@@ -52,18 +51,18 @@ module _ {R F : Type 0} {g : Ghosts R} (d : Draft R F g) where
         let ks = filled.marks ∙ ap (λ (n : ℕ). replicate n new_mark) fits.marks in
         rw (rs, ds, ks)
 
-    begins : Grows (drafted d) d.start [] (view d.start first t)
-    begins = subst (λ (s : State F). Grows (drafted d) d.start [] s) (sym state) (begun _ _ _)
+    begins : Grows (drafted g d) d.start [] (view d.start first t)
+    begins = subst (λ (s : State F). Grows (drafted g d) d.start [] s) (sym state) (begun _ _ _)
 
-    pub in_service : (x : Register R F g) → Opened d (length t.messages) (length t.journal) x → InService d x t
+    pub in_service : (x : Register R F) → Opened d (length t.messages) (length t.journal) x → InService g d x t
     in_service x o =
         let f : Fitting x.numbers t = rw o.numbers fits in
-        let b : Grows (meaning x) x.start [] (view x.start x.numbers t) = rw (o.rule, o.start, o.numbers) begins in
+        let b : Grows (meaning g x) x.start [] (view x.start x.numbers t) = rw (o.rule, o.start, o.numbers) begins in
         record {
           opened = o;
-          same_meaning = ap (rule_of g) o.rule;
+          same_meaning = rw (o.rule, o.numbers);
           state = rw (o.start, o.numbers) state;
           fits = f;
           begins = b;
-          serves = λ cs rs x' t' ran. let r = runs x t cs rs x' t' ran in (r.fits f, r.extends f [] b);
+          serves = λ cs rs x' t' ran. let r = runs g x t cs rs x' t' ran in (r.fits f, r.extends f [] b);
         }

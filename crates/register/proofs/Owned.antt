@@ -1,9 +1,8 @@
 -- A register that owns its tables: they fit, they are sound, and a call leaves them so.
-use Rattle.std.proofs.Common.{◌≡◌, ℕ, ◌+◌, ◌<◌, ◌≤◌, true, List, length, vec_items, vec_len, sym, refl, ap, ◌∙◌, subst, arith}
+use Rattle.std.proofs.Common.{◌≡◌, ℕ, ◌+◌, ◌<◌, ◌≤◌, true, List, length, vec_items, vec_len, sym, refl, ap, ◌∙◌, subst, ap₂, arith}
 use Rattle.std.specs.Vec.{with_items}
 use Rattle.std.proofs.lemmas.List.{with_items_is}
 use Rattle.quorum.specs.Sets.{Rule}
-use Rattle.quorum.specs.Meaning.{rule_of}
 use Rattle.quorum.specs.declared.system.QuorumSystem.{Ghosts}
 use Rattle.model.specs.declared.replica.Replica.{Replica}
 use Rattle.model.specs.declared.reader.Reader.{Reader}
@@ -19,6 +18,7 @@ use Rattle.model.proofs.SoundCalls.{sound_kept}
 use Rattle.tables.specs.declared.numbers.Numbers.{Numbers}
 use Rattle.register.specs.declared.service.cluster.OwnedTables.{OwnedTables}
 use Rattle.register.specs.declared.service.cluster.Cluster.{Cluster}
+use Rattle.tables.specs.Judged.{of_size}
 use Rattle.tables.specs.View.{Tables, tables, view, Fitting, rule_for}
 use Rattle.steps.specs.Doing.{judged, Advances}
 use Rattle.steps.specs.Queueing.{window}
@@ -26,7 +26,7 @@ use Rattle.steps.proofs.Queues.{window_long}
 use Rattle.register.specs.Owned.{owned}
 use Rattle.register.specs.Clusters.{cluster_state, cluster_rule, Steps}
 use Rattle.register.proofs.Histories.{step_sound, lengthens}
-use Rattle.register.proofs.Calling.{rule_is}
+use Rattle.tables.proofs.WholeTables.{sound_judged}
 
 -- The five lists that are lent to a call, of the messages the whole queue.
 pub record Lent (F : Type 0) : Type 0 where
@@ -84,11 +84,20 @@ pub record Loan {F : Type 0} (o : OwnedTables F) : Type 0 where
   pub is : lent ≡ lists o
   pub long : AsLong o back
 
+-- Soundness goes by the rule's size alone.
+sound_sized : {F : Type 0} (rule rule' : Rule) (s : State F) → rule.size ≡ rule'.size → sound rule s ≡ sound rule' s
+sound_sized rule rule' s e =
+    sym (sound_judged rule rule'.size s _ _ _ _ e refl refl refl refl)
+    ∙ sound_judged rule' rule'.size s _ _ _ _ refl refl refl refl refl
+
+pub cluster_sound : {R F : Type 0} (g : Ghosts R) (x : Cluster R F) → sound (cluster_rule g x) (cluster_state x) ≡ true
+cluster_sound g x = sound_sized (cluster_rule g x) (of_size x.register.numbers.replicas) (cluster_state x) refl ∙ x.sound
+
 -- A call behind the check, over the lists that a cluster lent.
-module _ {R F : Type 0} {g : Ghosts R} (x : Cluster R F g) (c : Call F) (loan : Loan x.tables) (r : Answer F) (head : ℕ)
+module _ {R F : Type 0} (g : Ghosts R) (x : Cluster R F) (c : Call F) (loan : Loan x.tables) (r : Answer F) (head : ℕ)
     (n' : Numbers) (within : head + x.register.numbers.message_room ≤ length loan.lent.queue)
     (did : Advances x.register.start
-    (judged (rule_for g x.register.rule x.register.numbers.replicas)
+    (judged (cluster_rule g x)
     (view x.register.start x.register.numbers (lent_tables x.tables.head x.register.numbers.message_room loan.lent)) c)
     x.register.numbers r n' (lent_tables head x.register.numbers.message_room loan.back)) where
   abbrev n : Numbers
@@ -98,7 +107,7 @@ module _ {R F : Type 0} {g : Ghosts R} (x : Cluster R F g) (c : Call F) (loan : 
   start = x.register.start
 
   abbrev rule : Rule
-  rule = cluster_rule x
+  rule = cluster_rule g x
 
   abbrev after : State F
   after = view start n' (owned n'.message_room (refilled x.tables head loan.back))
@@ -109,12 +118,11 @@ module _ {R F : Type 0} {g : Ghosts R} (x : Cluster R F g) (c : Call F) (loan : 
       refilled_are x.tables head n'.message_room loan.back loan.long
       ∙ ap (λ (room : ℕ). lent_tables head room loan.back) did.sizes.message_room
 
-  stepped : judged (rule_for g x.register.rule n.replicas) (view start n (lent_tables x.tables.head n.message_room loan.lent)) c
+  stepped : judged rule (view start n (lent_tables x.tables.head n.message_room loan.lent)) c
       ≡ step rule (cluster_state x) c
   stepped =
-      ap (λ (l : Rule). judged l (view start n (lent_tables x.tables.head n.message_room loan.lent)) c) (rule_is x.register)
-      ∙ ap (λ (l : Lent F). judged rule (view start n (lent_tables x.tables.head n.message_room l)) c) loan.is
-      ∙ sym (step_sound rule (cluster_state x) c x.sound)
+      ap (λ (l : Lent F). judged rule (view start n (lent_tables x.tables.head n.message_room l)) c) loan.is
+      ∙ sym (step_sound rule (cluster_state x) c (cluster_sound g x))
 
   next : after ≡ (step rule (cluster_state x) c).next
   next = ap (λ (t : Tables F). view start n' t) held ∙ did.state ∙ ap (λ (o : Outcome F). o.next) stepped
@@ -143,7 +151,7 @@ module _ {R F : Type 0} {g : Ghosts R} (x : Cluster R F g) (c : Call F) (loan : 
         fits : Fitting n' (owned n'.message_room (refilled x.tables head loan.back));
         queue_fits : head + n'.message_room ≤ vec_len x.tables.queue;
         queue_slack : n'.message_room < vec_len x.tables.queue;
-        sound : sound rule after ≡ true;
+        sound : sound (of_size n'.replicas) after ≡ true;
       }
   still =
       let same = did.sizes in
@@ -151,15 +159,17 @@ module _ {R F : Type 0} {g : Ghosts R} (x : Cluster R F g) (c : Call F) (loan : 
         fits = fitting;
         queue_fits = omega (arith, within, queue_long, same.message_room);
         queue_slack = omega (arith, x.queue_slack, same.message_room);
-        sound = ap (λ (s : State F). sound rule s) next ∙ sound_kept rule (cluster_state x) c x.sound;
+        sound =
+            sound_sized (of_size n'.replicas) rule after same.replicas
+            ∙ ap (λ (s : State F). sound rule s) next ∙ sound_kept rule (cluster_state x) c (cluster_sound g x);
       }
 
-  pub steps : (x' : Cluster R F g) → x'.register.rule ≡ x.register.rule → x'.register.start ≡ start
-      → cluster_state x' ≡ after → Steps c x r x'
-  steps x' same_rule same_start state =
+  pub steps : (x' : Cluster R F) → x'.register.rule ≡ x.register.rule → x'.register.start ≡ start
+      → x'.register.numbers ≡ n' → cluster_state x' ≡ after → Steps g c x r x'
+  steps x' same_rule same_start numbers state =
       let e : cluster_state x' ≡ (step rule (cluster_state x) c).next = state ∙ next in
       record {
-        rule = ap (λ (a : R). rule_of g a) same_rule;
+        rule = ap₂ (λ (a : R) (size : ℕ). rule_for g a size) same_rule (ap (λ (m : Numbers). m.replicas) numbers ∙ did.sizes.replicas);
         start = same_start;
         answer = did.answer ∙ ap (λ (o : Outcome F). o.reply) stepped;
         state = e;

@@ -2,7 +2,6 @@
 use Rattle.std.proofs.Common.{◌≡◌, ℕ, ◌+◌, ◌<◌, ◌≤◌, List, [], ◌∷◌, ◌++◌, length, get_or, take, sym, refl, ap, ◌∙◌, subst, ap₂}
 use Rattle.std.proofs.lemmas.List.{map-append, take_more, take_all}
 use Rattle.quorum.specs.Sets.{Rule}
-use Rattle.quorum.specs.Meaning.{rule_of}
 use Rattle.quorum.specs.declared.system.QuorumSystem.{Ghosts}
 use Rattle.model.specs.declared.calls.Call.{Call}
 use Rattle.model.specs.Answers.{Answer}
@@ -13,7 +12,7 @@ use Rattle.model.proofs.Runs.{runs_grow}
 use Rattle.model.proofs.Serving.{serves}
 use Rattle.register.specs.declared.service.Register.{Register}
 use Rattle.register.specs.declared.service.cluster.Cluster.{Cluster}
-use Rattle.tables.specs.View.{Tables, view, Fitting}
+use Rattle.tables.specs.View.{Tables, view, Fitting, rule_for}
 use Rattle.register.specs.Histories.{Carries}
 use Rattle.register.specs.Calls.{answered, Plays, meaning}
 use Rattle.register.specs.Clusters.{cluster_rule, cluster_state, Steps, ClusterRan}
@@ -79,29 +78,29 @@ module _ {F S : Type 0} (One : Call F → S → Answer F → S → Type 0) (rule
 
 -- OVER LENT TABLES
 
-module _ {R F : Type 0} {g : Ghosts R} (x : Register R F g) (t : Tables F) where
+module _ {R F : Type 0} (g : Ghosts R) (x : Register R F) (t : Tables F) where
   abbrev rule : Rule
-  rule = meaning x
+  rule = meaning g x
 
-  abbrev state : Register R F g × Tables F → State F
+  abbrev state : Register R F × Tables F → State F
   state p = view x.start p.0.numbers p.1
 
-  record OnTables (p : Register R F g × Tables F) : Type 0 where
-    same_rule : meaning p.0 ≡ rule
+  record OnTables (p : Register R F × Tables F) : Type 0 where
+    same_rule : meaning g p.0 ≡ rule
     same_start : p.0.start ≡ x.start
     fits : Fitting p.0.numbers p.1
 
-  plays : (c : Call F) (p : Register R F g × Tables F) (r : Answer F) (q : Register R F g × Tables F)
-      → Plays c p.0 p.1 r q.0 q.1 → OnTables p → OnTables q × StepsTo rule c (state p) r (state q)
+  plays : (c : Call F) (p : Register R F × Tables F) (r : Answer F) (q : Register R F × Tables F)
+      → Plays g c p.0 p.1 r q.0 q.1 → OnTables p → OnTables q × StepsTo rule c (state p) r (state q)
   plays c p r q does lent =
       let Carried : Rule → F → Type 0
       = λ l f. Carries l f c (answered l f p.0.numbers p.1 c) p.0.numbers p.1 r q.0.numbers q.1 in
       let k : Carried rule x.start
       = subst (λ (l : Rule). Carried l x.start) lent.same_rule
-      (subst (λ (f : F). Carried (meaning p.0) f) lent.same_start does.carries) in
+      (subst (λ (f : F). Carried (meaning g p.0) f) lent.same_start does.carries) in
       let o = answered_fitting rule x.start p.0.numbers p.1 lent.fits c in (
         record {
-          same_rule = ap (λ (a : R). rule_of g a) does.rule ∙ lent.same_rule;
+          same_rule = ap₂ (λ (a : R) (size : ℕ). rule_for g a size) does.rule k.does.sizes.replicas ∙ lent.same_rule;
           same_start = does.start ∙ lent.same_start;
           fits = k.fits lent.fits;
         },
@@ -111,8 +110,8 @@ module _ {R F : Type 0} {g : Ghosts R} (x : Register R F g) (t : Tables F) where
         },
       )
 
-  pub runs : (cs : List (Call F)) (rs : List (Answer F)) (x' : Register R F g) (t' : Tables F) → Ran x t cs rs x' t'
-      → Runs cs x t rs x' t'
+  pub runs : (cs : List (Call F)) (rs : List (Answer F)) (x' : Register R F) (t' : Tables F) → Ran g x t cs rs x' t'
+      → Runs g cs x t rs x' t'
   runs cs rs x' t' ran =
       let lent : Fitting x.numbers t → OnTables (x, t) = λ fits. record { same_rule = refl; same_start = refl; fits = fits } in
       record {
@@ -123,12 +122,12 @@ module _ {R F : Type 0} {g : Ghosts R} (x : Register R F g) (t : Tables F) where
 
 -- OVER TABLES OF ITS OWN
 
-module _ {R F : Type 0} {g : Ghosts R} (x : Cluster R F g) where
-  abbrev SameRule : Cluster R F g → Type 0
-  SameRule y = cluster_rule y ≡ cluster_rule x
+module _ {R F : Type 0} (g : Ghosts R) (x : Cluster R F) where
+  abbrev SameRule : Cluster R F → Type 0
+  SameRule y = cluster_rule g y ≡ cluster_rule g x
 
-  steps : (c : Call F) (y : Cluster R F g) (r : Answer F) (z : Cluster R F g) → Steps c y r z → SameRule y
-      → SameRule z × StepsTo (cluster_rule x) c (cluster_state y) r (cluster_state z)
+  steps : (c : Call F) (y : Cluster R F) (r : Answer F) (z : Cluster R F) → Steps g c y r z → SameRule y
+      → SameRule z × StepsTo (cluster_rule g x) c (cluster_state y) r (cluster_state z)
   steps c y r z does same = (
     does.rule ∙ same,
     record {
@@ -137,27 +136,27 @@ module _ {R F : Type 0} {g : Ghosts R} (x : Cluster R F g) where
     },
   )
 
-  pub cluster_runs : (cs : List (Call F)) (rs : List (Answer F)) (x' : Cluster R F g) → ClusterRan x cs rs x'
-      → (h : History F) → Grows (cluster_rule x) x.register.start h (cluster_state x)
-      → Extends (cluster_rule x) x.register.start cs (cluster_state x) rs (cluster_state x') h
+  pub cluster_runs : (cs : List (Call F)) (rs : List (Answer F)) (x' : Cluster R F) → ClusterRan g x cs rs x'
+      → (h : History F) → Grows (cluster_rule g x) x.register.start h (cluster_state x)
+      → Extends (cluster_rule g x) x.register.start cs (cluster_state x) rs (cluster_state x') h
   cluster_runs cs rs x' ran h before =
-      (extends Steps (cluster_rule x) cluster_state SameRule steps refl ran x.register.start h before).1
+      (extends (Steps g) (cluster_rule g x) cluster_state SameRule steps refl ran x.register.start h before).1
 
 -- The turns of a loop over the calls.
-module _ {R F : Type 0} {g : Ghosts R} {x : Register R F g} {t : Tables F} {rs : List (Answer F)} where
-  pub ran_none : rs ≡ [] → Ran x t [] rs x t
-  ran_none e = subst (λ (l : List (Answer F)). Ran x t [] l x t) (sym e) begun
+module _ {R F : Type 0} {g : Ghosts R} {x : Register R F} {t : Tables F} {rs : List (Answer F)} where
+  pub ran_none : rs ≡ [] → Ran g x t [] rs x t
+  ran_none e = subst (λ (l : List (Answer F)). Ran g x t [] l x t) (sym e) begun
 
-  module _ {x' : Register R F g} {t' : Tables F} (calls : List (Call F)) (i : ℕ) where
-    pub ran_more : Ran x t (take i calls) rs x' t' → i < length calls → {c : Call F} → c ≡ get_or calls i c → {r : Answer F}
-        {x'' : Register R F g} {t'' : Tables F} → Plays c x' t' r x'' t'' → {l : List (Answer F)} → l ≡ rs ++ r ∷ []
-        → Ran x t (take (i + 1) calls) l x'' t''
+  module _ {x' : Register R F} {t' : Tables F} (calls : List (Call F)) (i : ℕ) where
+    pub ran_more : Ran g x t (take i calls) rs x' t' → i < length calls → {c : Call F} → c ≡ get_or calls i c → {r : Answer F}
+        {x'' : Register R F} {t'' : Tables F} → Plays g c x' t' r x'' t'' → {l : List (Answer F)} → l ≡ rs ++ r ∷ []
+        → Ran g x t (take (i + 1) calls) l x'' t''
     ran_more ran low {c} is {r} {x''} {t''} plays {l} e =
         let more : take (i + 1) calls ≡ take i calls ++ c ∷ []
         = take_more calls i c low ∙ ap (λ (d : Call F). take i calls ++ d ∷ []) (sym is) in
-        subst (λ (k : List (Answer F)). Ran x t (take (i + 1) calls) k x'' t'') (sym e)
-        (subst (λ (k : List (Call F)). Ran x t k (rs ++ r ∷ []) x'' t'') (sym more) (then ran c r (x'', t'') plays))
+        subst (λ (k : List (Answer F)). Ran g x t (take (i + 1) calls) k x'' t'') (sym e)
+        (subst (λ (k : List (Call F)). Ran g x t k (rs ++ r ∷ []) x'' t'') (sym more) (then ran c r (x'', t'') plays))
 
-    pub ran_all : Ran x t (take i calls) rs x' t' → length calls ≤ i → Runs calls x t rs x' t'
+    pub ran_all : Ran g x t (take i calls) rs x' t' → length calls ≤ i → Runs g calls x t rs x' t'
     ran_all ran all =
-        runs x t calls rs x' t' (subst (λ (k : List (Call F)). Ran x t k rs x' t') (take_all i calls all) ran)
+        runs g x t calls rs x' t' (subst (λ (k : List (Call F)). Ran g x t k rs x' t') (take_all i calls all) ran)

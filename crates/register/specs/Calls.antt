@@ -1,7 +1,6 @@
 -- What a call on the register comes to with these tables, and what it carries: the claims over every history that led there.
 use Rattle.std.specs.Prelude.{◌≡◌, Bool, true, false, cond, ◌&&◌, length, ◌==◌}
 use Rattle.quorum.specs.Sets.{Rule}
-use Rattle.quorum.specs.Meaning.{rule_of}
 use Rattle.quorum.specs.declared.system.QuorumSystem.{Ghosts}
 use Rattle.model.specs.declared.calls.Call.{Call}
 use Rattle.model.specs.Answers.{Answer}
@@ -10,7 +9,7 @@ use Rattle.model.specs.Sound.{sound}
 use Rattle.model.specs.Steps.{Outcome, declined, step}
 use Rattle.tables.specs.declared.numbers.Numbers.{Numbers}
 use Rattle.register.specs.declared.service.Register.{Register}
-use Rattle.tables.specs.View.{Tables, view, Fitting}
+use Rattle.tables.specs.View.{Tables, view, Fitting, rule_for}
 use Rattle.register.specs.Histories.{Carries}
 use Rattle.register.specs.Commissioning.{parties_fit}
 
@@ -27,18 +26,18 @@ answered rule start n t c =
 
 -- THE REGISTER
 
--- What its rule means.
-abbrev pub meaning : {R F : Type 0} {g : Ghosts R} → Register R F g → Rule
-meaning {g = g} x = rule_of g x.rule
+-- What its rule means, over the replicas that it was commissioned for.
+abbrev pub meaning : {R F : Type 0} → Ghosts R → Register R F → Rule
+meaning g x = rule_for g x.rule x.numbers.replicas
 
 -- A call on the register: it keeps its rule and its starting figure, and carries the claims. Declined for a length, it keeps
 -- its numbers too, of which tables that are too short say nothing.
-pub record Plays {R F : Type 0} {g : Ghosts R} (c : Call F) (x : Register R F g) (t : Tables F) (r : Answer F)
-    (x' : Register R F g) (t' : Tables F) : Type 0 where
+pub record Plays {R F : Type 0} (g : Ghosts R) (c : Call F) (x : Register R F) (t : Tables F) (r : Answer F)
+    (x' : Register R F) (t' : Tables F) : Type 0 where
   pub rule : x'.rule ≡ x.rule
   pub start : x'.start ≡ x.start
   pub untouched : fits x.numbers t ≡ false → x'.numbers ≡ x.numbers
-  pub carries : Carries (meaning x) x.start c (answered (meaning x) x.start x.numbers t c) x.numbers t r x'.numbers t'
+  pub carries : Carries (meaning g x) x.start c (answered (meaning g x) x.start x.numbers t c) x.numbers t r x'.numbers t'
 
 -- Tables that are no reason to decline a call.
 pub record Checked {F : Type 0} (rule : Rule) (start : F) (n : Numbers) (t : Tables F) : Type 0 where

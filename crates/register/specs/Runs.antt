@@ -29,15 +29,15 @@ pub record Extends {F : Type 0} (rule : Rule) (start : F) (cs : List (Call F)) (
 
 -- ON A REGISTER with the tables that it is lent
 
-abbrev pub Ran : {R F : Type 0} {g : Ghosts R} → Register R F g → Tables F → List (Call F) → List (Answer F)
-    → Register R F g → Tables F → Type 0
-Ran {R} {F} {g} x t cs rs x' t' =
-    Trace (λ c (p : Register R F g × Tables F) r (q : Register R F g × Tables F). Plays c p.0 p.1 r q.0 q.1)
+abbrev pub Ran : {R F : Type 0} → Ghosts R → Register R F → Tables F → List (Call F) → List (Answer F)
+    → Register R F → Tables F → Type 0
+Ran {R} {F} g x t cs rs x' t' =
+    Trace (λ c (p : Register R F × Tables F) r (q : Register R F × Tables F). Plays g c p.0 p.1 r q.0 q.1)
     (x, t) cs rs (x', t')
 
-pub record Runs {R F : Type 0} {g : Ghosts R} (cs : List (Call F)) (x : Register R F g) (t : Tables F) (rs : List (Answer F))
-    (x' : Register R F g) (t' : Tables F) : Type 0 where
-  pub ran : Ran x t cs rs x' t'
+pub record Runs {R F : Type 0} (g : Ghosts R) (cs : List (Call F)) (x : Register R F) (t : Tables F) (rs : List (Answer F))
+    (x' : Register R F) (t' : Tables F) : Type 0 where
+  pub ran : Ran g x t cs rs x' t'
   pub fits : Fitting x.numbers t → Fitting x'.numbers t'
-  pub extends : Fitting x.numbers t → (h : History F) → Grows (meaning x) x.start h (view x.start x.numbers t)
-      → Extends (meaning x) x.start cs (view x.start x.numbers t) rs (view x.start x'.numbers t') h
+  pub extends : Fitting x.numbers t → (h : History F) → Grows (meaning g x) x.start h (view x.start x.numbers t)
+      → Extends (meaning g x) x.start cs (view x.start x.numbers t) rs (view x.start x'.numbers t') h

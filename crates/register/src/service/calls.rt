@@ -28,7 +28,7 @@ impl<R: QuorumSystem, F: Copy> Register<R, F> {
         journal: &mut [Operation<F>],
         figure: F,
     ) -> Result<Reply<F>, Refusal>
-        ensures { Plays (ModelCall.Write figure)
+        ensures { Plays R.QuorumSystem (ModelCall.Write figure)
             self.old (tables replicas.now readers.now marks.now messages.old journal.old)
             result
             self.new (tables replicas.now readers.now marks.now messages.new journal.new) }
@@ -51,7 +51,7 @@ impl<R: QuorumSystem, F: Copy> Register<R, F> {
         reader: u32,
         kind: ReadKind,
     ) -> Result<Reply<F>, Refusal>
-        ensures { Plays (ModelCall.Read reader kind)
+        ensures { Plays R.QuorumSystem (ModelCall.Read reader kind)
             self.old (tables replicas.now readers.old marks.now messages.old journal.old)
             result
             self.new (tables replicas.now readers.new marks.now messages.new journal.new) }
@@ -81,7 +81,7 @@ impl<R: QuorumSystem, F: Copy> Register<R, F> {
         journal: &mut [Operation<F>],
         place: u32,
     ) -> Result<Reply<F>, Refusal>
-        ensures { Plays (ModelCall.Deliver place)
+        ensures { Plays R.QuorumSystem (ModelCall.Deliver place)
             self.old (tables replicas.old readers.old marks.old messages.old journal.old)
             result
             self.new (tables replicas.new readers.new marks.new messages.new journal.new) }
@@ -112,7 +112,7 @@ impl<R: QuorumSystem, F: Copy> Register<R, F> {
         journal: &[Operation<F>],
         place: u32,
     ) -> Result<Reply<F>, Refusal>
-        ensures { Plays (ModelCall.Drop place)
+        ensures { Plays R.QuorumSystem (ModelCall.Drop place)
             self.old (tables replicas.now readers.now marks.now messages.old journal.now)
             result
             self.new (tables replicas.now readers.now marks.now messages.new journal.now) }
@@ -133,7 +133,7 @@ impl<R: QuorumSystem, F: Copy> Register<R, F> {
         journal: &[Operation<F>],
         place: u32,
     ) -> Result<Reply<F>, Refusal>
-        ensures { Plays (ModelCall.Duplicate place)
+        ensures { Plays R.QuorumSystem (ModelCall.Duplicate place)
             self.old (tables replicas.now readers.now marks.now messages.old journal.now)
             result
             self.new (tables replicas.now readers.now marks.now messages.new journal.now) }
@@ -154,7 +154,7 @@ impl<R: QuorumSystem, F: Copy> Register<R, F> {
         journal: &[Operation<F>],
         party: Party,
     ) -> Result<Reply<F>, Refusal>
-        ensures { Plays (ModelCall.Halt party)
+        ensures { Plays R.QuorumSystem (ModelCall.Halt party)
             self.old (tables replicas.old readers.old marks.now messages.now journal.now)
             result
             self.new (tables replicas.new readers.new marks.now messages.now journal.now) }
@@ -173,7 +173,7 @@ impl<R: QuorumSystem, F: Copy> Register<R, F> {
         journal: &mut [Operation<F>],
         call: Call<F>,
     ) -> Result<Reply<F>, Refusal>
-        ensures { Plays call
+        ensures { Plays R.QuorumSystem call
             self.old (tables replicas.old readers.old marks.old messages.old journal.old)
             result
             self.new (tables replicas.new readers.new marks.new messages.new journal.new) }
@@ -202,8 +202,8 @@ impl<R: QuorumSystem, F: Copy> Register<R, F> {
         journal: &[Operation<F>],
     ) -> Result<(), Refusal>
         ensures { MatchResult result
-            (λ _. Checked (meaning self.now) self.now.start self.now.numbers (tables replicas.now readers.now marks.now messages.now journal.now))
-            (Declines (meaning self.now) self.now.start self.now.numbers (tables replicas.now readers.now marks.now messages.now journal.now)) }
+            (λ _. Checked (meaning R.QuorumSystem self.now) self.now.start self.now.numbers (tables replicas.now readers.now marks.now messages.now journal.now))
+            (Declines (meaning R.QuorumSystem self.now) self.now.start self.now.numbers (tables replicas.now readers.now marks.now messages.now journal.now)) }
     {
         if !self.lengths_fit(replicas, readers, marks, messages, journal) {
             return Err(Refusal::TableLength);

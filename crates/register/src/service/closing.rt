@@ -3,9 +3,8 @@ ghost use Rattle.register.specs.Service.{closed};
 
 use super::Register;
 use crate::tally::Tally;
-use quorum::QuorumSystem;
 
-impl<R: QuorumSystem + Drop, F: Copy> Register<R, F> {
+impl<R: Drop, F: Copy> Register<R, F> {
     /// Uses the register up, and returns its three numbers. It needs no table, alters none, and is never refused.
     pub fn close(self) -> Tally
         ensures { result ≡ closed self }

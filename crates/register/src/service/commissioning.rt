@@ -24,7 +24,7 @@ impl<R: QuorumSystem, F: Copy> Draft<R, F> {
         messages: &[Message<F>],
         journal: &[Operation<F>],
     ) -> Result<Register<R, F>, Uncommissioned<R, F>>
-        ensures { Commissioned self
+        ensures { Commissioned R.QuorumSystem self
             (tables replicas.old readers.old marks.old messages.now journal.now)
             result
             (tables replicas.new readers.new marks.new messages.now journal.now) }
@@ -55,7 +55,7 @@ impl<R: QuorumSystem, F: Copy> Draft<R, F> {
         ensures { result ≡ allowed self.now
             (tables replicas.now readers.now marks.now messages.now journal.now) }
     {
-        parties_fit(self.rule.size(), self.readers, replicas, readers, marks)
+        parties_fit(self.replicas, self.readers, replicas, readers, marks)
             && self.rooms_fit(messages.len(), journal.len())
     }
 
@@ -63,7 +63,7 @@ impl<R: QuorumSystem, F: Copy> Draft<R, F> {
     pub(super) fn rooms_fit(&self, messages: usize, journal: usize) -> bool
         ensures { result ≡ rooms_fit self.now messages journal }
     {
-        (self.rule.size() as usize..=4096).contains(&messages) && (1..=4096).contains(&journal)
+        (self.replicas as usize..=4096).contains(&messages) && (1..=4096).contains(&journal)
     }
 
     /// The register, over tables with so much room.
@@ -71,7 +71,7 @@ impl<R: QuorumSystem, F: Copy> Draft<R, F> {
         requires { rooms_fit self message_room journal_room ≡ true }
         ensures { Opened self message_room journal_room result }
     {
-        let numbers = new_numbers(self.rule.size(), self.readers, message_room, journal_room);
+        let numbers = new_numbers(self.replicas, self.readers, message_room, journal_room);
         Register {
             rule: self.rule,
             start: self.start,

@@ -22,7 +22,7 @@ impl<R: QuorumSystem, F: Copy> Register<R, F> {
         calls: &[Call<F>],
     ) -> Result<Vec<Result<Reply<F>, Refusal>>, AllocError>
         ensures { MatchResult result
-            (λ replies. Runs calls.now
+            (λ replies. Runs R.QuorumSystem calls.now
             self.old (tables replicas.old readers.old marks.old messages.old journal.old)
             replies.items
             self.new (tables replicas.new readers.new marks.new messages.new journal.new))

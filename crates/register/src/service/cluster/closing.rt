@@ -3,9 +3,8 @@ ghost use Rattle.register.specs.Service.{closed};
 
 use super::Cluster;
 use crate::tally::Tally;
-use quorum::QuorumSystem;
 
-impl<R: QuorumSystem + Drop, F: Copy> Cluster<R, F> {
+impl<R: Drop, F: Copy> Cluster<R, F> {
     /// Uses the register up, with its tables, and returns its three numbers.
     pub fn close(self) -> Tally
         ensures { result ≡ closed self.register }

@@ -19,7 +19,7 @@ impl<R: QuorumSystem, F: Copy> Draft<R, F> {
         message_room: usize,
         journal_room: usize,
     ) -> Result<Cluster<R, F>, Unfounded<R, F>>
-        ensures { Founded self message_room journal_room result }
+        ensures { Founded R.QuorumSystem self message_room journal_room result }
     {
         if !self.rooms_fit(message_room, journal_room) {
             return Err(Unfounded {
@@ -50,7 +50,7 @@ impl<R: QuorumSystem, F: Copy> Draft<R, F> {
         ensures { IfOk result (Made self.now message_room journal_room) }
     {
         let start = self.start;
-        let size = self.rule.size() as usize;
+        let size = self.replicas as usize;
         let width = self.readers as usize;
         Ok(OwnedTables {
             replicas: filled(heap, size, Replica::new(start))?,

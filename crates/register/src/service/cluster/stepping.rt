@@ -9,7 +9,7 @@ impl<R: QuorumSystem, F: Copy> Cluster<R, F> {
     /// Does any of the six calls, and answers or declines as `Register` does. Its tables are its own, so none is declined with
     /// `TableLength` (3) or `Unsound` (4). A declined call alters nothing.
     pub fn call(&mut self, call: Call<F>) -> Result<Reply<F>, Refusal>
-        ensures { Steps call self.old result self.new }
+        ensures { Steps R.QuorumSystem call self.old result self.new }
     {
         let Cluster { register, tables } = self;
         step_queued(

@@ -9,7 +9,7 @@ returns g c =
     let fit = sym c.accepts.ensures ∙ c.if-not-accepts.false in
     let mark : c.default.result ≡ new_mark = search rules in (
       fit,
-      in_service c.args.self _ (rw (c.fill_with.ensures.len, c.fill_with-2.ensures.len, c.fill.ensures.len) fit)
+      in_service c.args.self g.R.QuorumSystem _ (rw (c.fill_with.ensures.len, c.fill_with-2.ensures.len, c.fill.ensures.len) fit)
           (record {
             replicas = filled_with _ _ _ (λ y h ran. search rules) _ _ c.fill_with.ensures.ran.1;
             readers = filled_with _ _ _ (λ y h ran. search rules) _ _ c.fill_with-2.ensures.ran.1;

@@ -1,10 +1,5 @@
-use Rattle.std.proofs.Common.{ap, ◌∙◌}
-use Rattle.tables.specs.declared.numbers.Numbers.{Numbers}
 use Rattle.register.proofs.Commissions.{kept_first}
 use Rattle.register.proofs.service.Draft.open.Goals as goal
 
 pub invariant_of-result : goal.invariant_of-result
-invariant_of-result g c = record {
-  kept = kept_first c.args.self _ _ c.requires _ (rw (← c.size.ensures) c.new_numbers-numbers.ensures);
-  sized = ap (λ (n : Numbers). n.replicas) c.new_numbers-numbers.ensures ∙ c.size.ensures;
-}
+invariant_of-result g c = record { kept = kept_first c.args.self _ _ c.requires _ c.new_numbers-numbers.ensures }

@@ -1,4 +1,5 @@
-use Rattle.std.proofs.Common.{sym, arith}
+use Rattle.std.proofs.Common.{sym, refl, arith}
+use Rattle.register.specs.Calls.{meaning}
 use Rattle.register.proofs.Calling.{fits_tells, declines_lengths, declines_unsound}
 use Rattle.tables.specs.View.{tables}
 use Rattle.register.proofs.service.Register.check.Goals as goal
@@ -19,10 +20,10 @@ tables_sound-requires g c =
 
 pub returns-then-not-tables_sound : goal.returns-then-not-tables_sound
 returns-then-not-tables_sound g c =
-    declines_unsound _ _ _ _ (sym c.if-not-lengths_fit.ensures) (sym (c.if-not-tables_sound.ensures _ (sym c.args.self.now.sized) _ _))
+    declines_unsound _ _ _ _ (sym c.if-not-lengths_fit.ensures) (sym (c.if-not-tables_sound.ensures (meaning g.R.QuorumSystem c.args.self.now) refl _ _))
 
 pub returns : goal.returns
 returns g c = record {
   fitting = fits_tells _ _ (sym c.if-not-lengths_fit.ensures);
-  is_sound = sym (c.if-not-tables_sound.ensures _ (sym c.args.self.now.sized) _ _);
+  is_sound = sym (c.if-not-tables_sound.ensures (meaning g.R.QuorumSystem c.args.self.now) refl _ _);
 }

@@ -6,7 +6,7 @@ use Rattle.register.proofs.service.Register.run.Given as goal
 -- the calls so far have run, and there is room for an answer to each
 abbrev pub invariant-loop-call : goal.invariant-loop-call
 invariant-loop-call g l =
-    Ran l.initial.self
+    Ran g.R.QuorumSystem l.initial.self
     (tables l.initial.replicas l.initial.readers l.initial.marks l.initial.messages l.initial.journal)
     (take l.call-index l.calls) (vec_items l.replies) l.self
     (tables l.replicas l.readers l.marks l.messages l.journal)

@@ -1,5 +1,5 @@
 use Rattle.std.proofs.Common.{refl, ◌∙◌}
-use Rattle.register.proofs.Owned.{Loan, still, steps}
+use Rattle.register.proofs.Owned.{Loan, cluster_sound, still, steps}
 use Rattle.register.proofs.service.cluster.Cluster.call.Given.{Over}
 use Rattle.register.proofs.service.cluster.Cluster.call.Goals.{After-step_queued}
 use Rattle.register.proofs.service.cluster.Cluster.call.Goals as goal
@@ -39,14 +39,24 @@ loan g c =
       };
     }
 
+pub step_queued-requires-clause-sound : goal.step_queued-requires-clause-sound
+step_queued-requires-clause-sound g c =
+    rw (
+      c.deref_mut.ensures.value,
+      c.deref_mut-2.ensures.value,
+      c.deref_mut-3.ensures.value,
+      c.deref_mut-4.ensures.value,
+      c.deref_mut-5.ensures.value,
+    ) (cluster_sound g.R.QuorumSystem c.args.self.now)
+
 pub invariant_of-self : goal.invariant_of-self
 invariant_of-self g c =
     let r = c.step_queued in
-    still c.args.self.now c.args.call (loan g (goal.at.invariant_of-self g c).After-step_queued) r.result r.new.head
+    still g.R.QuorumSystem c.args.self.now c.args.call (loan g (goal.at.invariant_of-self g c).After-step_queued) r.result r.new.head
     r.new.numbers r.ensures.within r.ensures.advances
 
 pub returns : goal.returns
 returns g c =
     let r = c.step_queued in
-    steps c.args.self.now c.args.call (loan g (goal.at.returns g c).After-step_queued) r.result r.new.head
-    r.new.numbers r.ensures.within r.ensures.advances _ refl refl refl
+    steps g.R.QuorumSystem c.args.self.now c.args.call (loan g (goal.at.returns g c).After-step_queued) r.result r.new.head
+    r.new.numbers r.ensures.within r.ensures.advances _ refl refl refl refl
