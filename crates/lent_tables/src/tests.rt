@@ -1,5 +1,6 @@
 //! What no script can show of a register over lent tables.
 
+mod any_rule;
 mod calls;
 mod changes;
 mod commissioning;
